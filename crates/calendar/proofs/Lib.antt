@@ -1,0 +1,5 @@
+pub mod Bounds
+pub mod Months
+pub mod Ranking
+pub mod Sums
+pub mod Years

@@ -1,0 +1,74 @@
+ghost use mathlib.Core.Path.{_≡_};
+ghost use mathlib.Core.Bool.{true, _&&_};
+ghost use Rattle.std.specs.Options.{isSome};
+ghost use Rattle.std.specs.Slices.{found};
+ghost use Rattle.calendar.specs.Gregorian.{realDate, realTime, dayNumber, secondsOf};
+ghost use Rattle.calendar.specs.Order.{DaysRank, DaysGapless, SecondsRank};
+use crate::Date;
+use crate::DateDebug;
+use crate::DatePartialEq;
+use crate::Time;
+use crate::TimeDebug;
+use crate::TimePartialEq;
+use crate::days_before_month;
+use crate::days_before_year;
+
+/// A date and time of day that the calendar has.
+#[derive(Clone, Copy, PartialEq, Eq, Debug)]
+pub struct Moment {
+    date: Date,
+    time: Time,
+    ghost real: { (realDate date ≡ true) × (realTime time ≡ true) },
+}
+
+impl Moment {
+    /// The moment of a date and a time of day, if both are real.
+    pub fn new(date: Date, time: Time) -> Option<Moment>
+        ensures accepts { λ r. ⌜ isSome r ≡ (realDate date && realTime time) ⌝ }
+        ensures holds { λ r. ⌜ found r (λ m. (m .date ≡ date) × (m .time ≡ time)) ⌝ }
+    {
+        if date.is_real() && time.is_real() {
+            Some(Moment { date, time })
+        } else {
+            None
+        }
+    }
+
+    pub fn date(&self) -> Date
+        ensures answer { λ r. ⌜ r ≡ now (self .entry) .date ⌝ }
+        ensures real { λ r. ⌜ realDate r ≡ true ⌝ }
+    {
+        self.date
+    }
+
+    pub fn time(&self) -> Time
+        ensures answer { λ r. ⌜ r ≡ now (self .entry) .time ⌝ }
+        ensures real { λ r. ⌜ realTime r ≡ true ⌝ }
+    {
+        self.time
+    }
+
+    /// The days since 01.01.0001.
+    pub fn day_number(&self) -> u32
+        ensures counts { λ r. ⌜ r ≡ dayNumber (now (self .entry) .date) ⌝ }
+        ensures ranks { λ _. ⌜ DaysRank ⌝ }
+        ensures gapless { λ _. ⌜ DaysGapless ⌝ }
+    {
+        let Date { day, month, year } = self.date;
+        days_before_year(year) + days_before_month(month, year) + (day - 1) as u32
+    }
+
+    /// The seconds since 01.01.0001 00:00:00.
+    pub fn seconds(&self) -> u64
+        ensures counts { λ r. ⌜ r ≡ secondsOf (now (self .entry) .date) (now (self .entry) .time) ⌝ }
+        ensures ranks { λ _. ⌜ SecondsRank ⌝ }
+    {
+        let Time {
+            hour,
+            minute,
+            second,
+        } = self.time;
+        let hours = self.day_number() as u64 * 24 + hour as u64;
+        (hours * 60 + minute as u64) * 60 + second as u64
+    }
+}

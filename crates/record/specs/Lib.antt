@@ -1,0 +1,6 @@
+pub mod Bytes
+pub mod Digits
+pub mod Start
+pub mod Heads
+pub mod Reading
+pub mod Told
