@@ -1,30 +1,24 @@
 -- Digits and the numbers that they write.
 use Prim.Native.Nat.{ℕ, zero, suc, _+_, _-_, _*_, _/_, _%_, _^_, _<_, _≤_}
 use mathlib.Core.Path.{_≡_, refl, sym, ap, subst, _∙_}
-use mathlib.Core.Bool.{Bool, true, false, cond}
+use mathlib.Core.Bool.{true}
 use mathlib.Core.List.{List, [], _∷_, _++_, append-assoc, append-nil}
-use mathlib.Core.Logic.{⊎-elim}
 use native.Mathlib.Omega.{arith}
-use native.Mathlib.Nat.{pow-suc, add-suc, suc-add, zero-add}
+use native.Mathlib.Nat.{pow-suc}
 use native.Mathlib.Numerals.{add-one}
 use lib.Dec.{leb}
 use lib.ListN.{length}
 use Rattle.std.proofs.shelf.Lists.{length-push}
-use Rattle.std.proofs.shelf.Tests.{cases-bool, cond-true, cond-false, and-parts, and-from, leb-true, le-leb}
-use Rattle.std.specs.declared.result.Result.{Result}
+use Rattle.std.proofs.shelf.Tests.{cond-true, and-parts, and-from, leb-true, le-leb}
 use Rattle.std.specs.declared.result.Result.the-variants.{Ok, Err}
 use Rattle.refusal.specs.declared.faults.ItemFault.{ItemFault}
 use Rattle.record.specs.Bytes.{isDigit}
-use Rattle.record.specs.Digits.{digitValue, numeralFrom, numeral, digits}
+use Rattle.record.specs.Digits.{numeralFrom, numeral, digits}
+use Rattle.refusal.proofs.Chains.{cond-ok}
 
 pub length-digits : (w n : ℕ) → length (digits w n) ≡ w
 length-digits zero n = refl
 length-digits (suc w) n = length-push (digits w (n / 10)) (48 + n % 10) ∙ ap (λ k. k + 1) (length-digits w (n / 10)) ∙ add-one w
-
--- a test that a result was passed, from the result
-cond-ok : {X F : Type 0} (b : Bool) (r : Result X F) (f : F) (x : X) → cond b r (Err f) ≡ Ok x → (b ≡ true) × (r ≡ Ok x)
-cond-ok true r f x e = (refl, e)
-cond-ok false r f x e = let z : _≡_ {A = ℕ} 0 1 = cc in absurd (omega arith)
 
 -- reading the digits of n, and then what follows them
 numeral-over : (f : ItemFault) (w n : ℕ) (rest : List ℕ) → n < 10 ^ w → numeralFrom f 0 (digits w n ++ rest) ≡ numeralFrom f n rest

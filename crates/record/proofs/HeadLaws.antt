@@ -47,12 +47,16 @@ cut-parts m p n k s t long e = (
   ap (take k) (sym (drop-drop n p m)) ∙ sym (drop-take n k (drop p m)) ∙ ap (drop n) e ∙ drop-at s t n long,
 )
 
--- a part that was read as a number, and back
+-- a part that is read as n holds the digits of n
 number-told : (m : List ℕ) → 53 ≤ length m → (f : ItemFault) (p w n : ℕ) → p + w ≤ 53 → numeral f (part m p w) ≡ Ok n → (part m p w ≡ digits w n) × (n < 10 ^ w)
 number-told m long f p w n fits e =
     let d = digits-numeral f (part m p w) n e in
     let l : length (part m p w) ≡ w = length-take-le w (drop p m) (omega (arith, length-drop p m)) in
     (d .0 ∙ ap (λ k. digits k n) l, subst (λ k. n < 10 ^ k) l (d .1))
+
+-- a part that holds the digits of n is read as n
+number-read : (m : List ℕ) (f : ItemFault) (p w n : ℕ) → w ≤ 9 → n < 10 ^ w → part m p w ≡ digits w n → numeral f (part m p w) ≡ Ok n
+number-read m f p w n few below e = ap (numeral f) e ∙ numeral-digits f w n few below
 
 -- the first twelve bytes
 start-told : (m : List ℕ) (n : ℕ) → bodyLength Head m 0 0 ≡ Ok n → (53 ≤ length m) × (part m 0 12 ≡ codes "U_HEAD010041")
@@ -97,7 +101,6 @@ start-read m long e =
 
 -- the date, the hour and the minute
 edition-told : (m : List ℕ) (e : Edition) → 53 ≤ length m → editionAt m ≡ Ok e → (lawfulEdition e ≡ true) × (part m 36 12 ≡ editionBytes e)
-unfolding editionAt
 edition-told m e long h =
     let day = then-ok (numeral (faultAt 36) (part m 36 2)) _ _ h in
     let month = then-ok (numeral (faultAt 36) (part m 38 2)) _ _ (day .2) in
@@ -114,10 +117,6 @@ edition-told m e long h =
     (number-told m long (faultAt 36) 46 2 (minute .0) (omega arith) (minute .1) .0)))) in
     subst (λ x. (lawfulEdition x ≡ true) × (part m 36 12 ≡ editionBytes x)) (ok-same made e (last .2)) (demand-ok (lawfulEdition made) _ _ (last .1), bytes)
 
--- a part that holds the digits of n is read as n
-number-read : (m : List ℕ) (f : ItemFault) (p w n : ℕ) → w ≤ 9 → n < 10 ^ w → part m p w ≡ digits w n → numeral f (part m p w) ≡ Ok n
-number-read m f p w n few below e = ap (numeral f) e ∙ numeral-digits f w n few below
-
 -- a month's days have two digits
 month-short : (m y : ℕ) → m ≤ 12 → monthLength m y ≤ 32
 month-short m y within =
@@ -125,7 +124,6 @@ month-short m y within =
     cond-both {A = ℕ} (eqb m 2 && leap y) 1 0 (λ x. getD (0 ∷ monthLengths) m 0 + x ≤ 32) (λ e. omega arith) (λ e. omega arith)
 
 edition-read : (m : List ℕ) (e : Edition) → lawfulEdition e ≡ true → part m 36 12 ≡ editionBytes e → editionAt m ≡ Ok e
-unfolding editionAt
 edition-read m e fine h =
     let f : ItemFault = faultAt 36 in
     let real = and-parts (realDate (e .date)) (realTime (record { hour = e .hour; minute = e .minute; second = 0 })) fine in
@@ -179,9 +177,6 @@ length-second : (l : List ℕ) → lawfulSecond l ≡ true → length l ≡ 2
 length-second l e =
     ⊎-elim (length-language l) (λ t. ap length (sameBytes-decides l (codes "  ") .0 t)) (or-cases (lawfulLanguage l) (sameBytes l (codes "  ")) e)
 
-length-edition : (e : Edition) → length (editionBytes e) ≡ 12
-length-edition e = refl
-
 pub length-encode : (h : HeadItems) → lawful h ≡ true → length (encode h) ≡ 53
 unfolding encode
 length-encode h fine =
@@ -202,7 +197,7 @@ tested-go : (test : List ℕ → Bool) (m : List ℕ) (p n : ℕ) (x : List ℕ)
 tested-go test m p n x e q = then-go (demand (test (part m p n)) (faultAt p)) _ tt _ (demand-go (test (part m p n)) _ (ap test q ∙ e)) (ap Ok q)
 
 items-told : (m : List ℕ) (h : HeadItems) → 53 ≤ length m → part m 0 12 ≡ codes "U_HEAD010041" → itemsAt m ≡ Ok h → (lawful h ≡ true) × (part m 0 53 ≡ encode h)
-unfolding itemsAt flagsAt encode
+unfolding encode
 items-told m h long start e =
     let carrier = then-ok (numeral (faultAt 12) (part m 12 4)) _ _ e in
     let key = then-ok (tested lawfulKey m 16 20) _ _ (carrier .2) in
@@ -232,21 +227,20 @@ items-told m h long start e =
     subst (λ x. (lawful x ≡ true) × (part m 0 53 ≡ encode x)) (ok-same made h (second .2)) (lawful-from made fine, bytes)
 
 pub head-told : (m : List ℕ) (h : HeadItems) → headAt m ≡ Ok h → (lawful h ≡ true) × (take 53 m ≡ encode h)
-unfolding headAt
 head-told m h e =
     let a = then-ok (bodyLength Head m 0 0) _ _ e in
     let s = start-told m (a .0) (a .1) in
     items-told m h (s .0) (s .1) (lift-ok Item (itemsAt m) h (a .2))
 
 pub head-read : (m : List ℕ) (h : HeadItems) → lawful h ≡ true → take 53 m ≡ encode h → headAt m ≡ Ok h
-unfolding encode headAt itemsAt flagsAt
+unfolding encode
 head-read m h fine e =
     let l = lawful-parts h fine in
     let long : 53 ≤ length m = omega (arith, length-take 53 m, ap length e, length-encode h fine) in
     let start = cut-parts m 0 12 41 (codes "U_HEAD010041") _ refl e in
     let carrier = cut-parts m 12 4 37 (digits 4 (h .carrier)) _ (length-digits 4 (h .carrier)) (start .1) in
     let key = cut-parts m 16 20 17 (h .key) _ (length-key (h .key) (l .key)) (carrier .1) in
-    let edition = cut-parts m 36 12 5 (editionBytes (h .edition)) _ (length-edition (h .edition)) (key .1) in
+    let edition = cut-parts m 36 12 5 (editionBytes (h .edition)) _ refl (key .1) in
     let flags = cut-parts m 48 1 4 (digits 1 (h .flags)) _ (length-digits 1 (h .flags)) (edition .1) in
     let language = cut-parts m 49 2 2 (h .language) (h .«second_language») (length-language (h .language) (l .language)) (flags .1) in
     let flag : flagsAt m ≡ Ok (h .flags) =

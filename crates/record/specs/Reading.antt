@@ -35,7 +35,7 @@ abbrev pub tested : (List ℕ → Bool) → List ℕ → ℕ → ℕ → Result 
 tested test m place n = then (demand (test (part m place n)) (faultAt place)) (λ _. Ok (part m place n))
 
 -- an item of several numbers has one place, where it begins
-unfoldable pub editionAt : List ℕ → Result Edition ItemFault
+abbrev pub editionAt : List ℕ → Result Edition ItemFault
 editionAt m =
     then (numeral (faultAt 36) (part m 36 2)) (λ day.
     then (numeral (faultAt 36) (part m 38 2)) (λ month.
@@ -45,10 +45,10 @@ editionAt m =
     then (demand (lawfulEdition (record { date = record { day = day; month = month; year = year }; hour = hour; minute = minute })) (faultAt 36)) (λ _.
     Ok (record { date = record { day = day; month = month; year = year }; hour = hour; minute = minute })))))))
 
-unfoldable pub flagsAt : List ℕ → Result ℕ ItemFault
+abbrev pub flagsAt : List ℕ → Result ℕ ItemFault
 flagsAt m = then (numeral (faultAt 48) (part m 48 1)) (λ n. then (demand (leb n 7) (faultAt 48)) (λ _. Ok n))
 
-unfoldable pub itemsAt : List ℕ → Result HeadItems ItemFault
+abbrev pub itemsAt : List ℕ → Result HeadItems ItemFault
 itemsAt m =
     then (numeral (faultAt 12) (part m 12 4)) (λ carrier.
     then (tested lawfulKey m 16 20) (λ key.
@@ -59,5 +59,5 @@ itemsAt m =
     Ok (record { carrier = carrier; key = key; edition = edition; flags = flags; language = language; «second_language» = second })))))))
 
 -- the head at the front of m, or the first fault
-unfoldable pub headAt : List ℕ → Result HeadItems RecordFault
+abbrev pub headAt : List ℕ → Result HeadItems RecordFault
 headAt m = then (bodyLength Head m 0 0) (λ _. lift Item (itemsAt m))

@@ -14,4 +14,6 @@ pub use faults::SheetFault;
 pub use faults::SheetFromRecord;
 pub use faults::Site;
 pub use figures::Refusal;
+pub use figures::RefusalDebug;
 pub use figures::RefusalDisplay;
+pub use figures::RefusalPartialEq;
