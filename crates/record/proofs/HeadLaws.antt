@@ -150,7 +150,6 @@ pub record Lawful (h : HeadItems) : Type 0 where
   pub second : lawfulSecond (h .«second_language») ≡ true
 
 pub lawful-parts : (h : HeadItems) → lawful h ≡ true → Lawful h
-unfolding lawful
 lawful-parts h e =
     let a = and-parts (leb (h .carrier) 9999) _ e in
     let b = and-parts (lawfulKey (h .key)) _ (a .1) in
@@ -160,7 +159,6 @@ lawful-parts h e =
     record { carrier = leb-true (h .carrier) 9999 (a .0); key = b .0; edition = c .0; flags = leb-true (h .flags) 7 (d .0); language = l .0; second = l .1 }
 
 pub lawful-from : (h : HeadItems) → Lawful h → lawful h ≡ true
-unfolding lawful
 lawful-from h l =
     and-from (leb (h .carrier) 9999) _ (le-leb (h .carrier) 9999 (l .carrier))
     (and-from (lawfulKey (h .key)) _ (l .key)

@@ -32,7 +32,7 @@ abbrev pub lawfulSecond : List ℕ → Bool
 lawfulSecond l = lawfulLanguage l || sameBytes l (codes "  ")
 
 -- flags are the sum of 1 (international), 2 (edited by an agent) and 4 (specimen)
-unfoldable pub lawful : HeadItems → Bool
+abbrev pub lawful : HeadItems → Bool
 lawful h = leb (h .carrier) 9999 && (lawfulKey (h .key) && (lawfulEdition (h .edition) && (leb (h .flags) 7 && (lawfulLanguage (h .language) && lawfulSecond (h .«second_language»)))))
 
 abbrev pub editionBytes : Edition → List ℕ

@@ -3,4 +3,5 @@ pub mod Digits
 pub mod Start
 pub mod Heads
 pub mod Reading
+pub mod Writing
 pub mod Told

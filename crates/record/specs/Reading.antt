@@ -1,34 +1,25 @@
 -- Reading a head from the front of a message: the items from left to right, and the first fault.
 use Prim.Native.Nat.{ℕ}
-use mathlib.Core.Path.{_≡_}
-use mathlib.Core.Bool.{Bool, true}
-use mathlib.Core.List.{List, _++_}
+use mathlib.Core.Bool.{Bool}
+use mathlib.Core.List.{List}
 use lib.Dec.{leb}
-use lib.ListN.{take}
 use Rattle.std.specs.declared.result.Result.{Result}
-use Rattle.std.specs.declared.result.Result.the-variants.{Ok, Err}
+use Rattle.std.specs.declared.result.Result.the-variants.{Ok}
 use Rattle.refusal.specs.Chain.{then, lift, demand}
 use Rattle.refusal.specs.declared.causes.ItemCause.the-variants.{HeadItem}
 use Rattle.refusal.specs.declared.faults.ItemFault.{ItemFault}
 use Rattle.refusal.specs.declared.faults.RecordFault.{RecordFault}
 use Rattle.refusal.specs.declared.faults.RecordFault.the-variants.{Item}
-use Rattle.refusal.specs.declared.causes.SheetCause.the-variants.{BufferTooShort}
-use Rattle.refusal.specs.declared.faults.SheetFault.{SheetFault}
-use Rattle.refusal.specs.declared.faults.SheetFault.the-variants as sheet-fault
 use Rattle.record.specs.Bytes.{part}
 use Rattle.record.specs.Digits.{numeral}
 use Rattle.record.specs.Start.{inRecord, bodyLength}
-use Rattle.record.specs.Heads.{lawful, lawfulKey, lawfulEdition, lawfulLanguage, lawfulSecond, encode}
+use Rattle.record.specs.Heads.{lawfulKey, lawfulEdition, lawfulLanguage, lawfulSecond}
 use Rattle.record.specs.declared.items.Edition.{Edition}
 use Rattle.record.specs.declared.items.HeadItems.{HeadItems}
 use Rattle.record.specs.declared.start.RecordKind.the-variants.{Head}
 
 abbrev pub faultAt : ℕ → ItemFault
 faultAt place = record { cause = HeadItem; site = inRecord 0 place }
-
--- a buffer shorter than the record
-abbrev pub tooShort : SheetFault
-tooShort = sheet-fault.Own BufferTooShort (inRecord 0 0)
 
 -- the n bytes at a place, where they pass a test
 abbrev pub tested : (List ℕ → Bool) → List ℕ → ℕ → ℕ → Result (List ℕ) ItemFault

@@ -1,15 +1,14 @@
 ghost use mathlib.Core.Path.{_≡_};
 ghost use mathlib.Core.List.{_++_};
-ghost use mathlib.Core.Bool.{cond};
 ghost use Prim.Native.Nat.{_+_, _≤_};
-ghost use lib.Dec.{leb};
 ghost use lib.ListN.{drop, length};
 ghost use Rattle.std.specs.declared.result.Result.the-variants.{Ok};
 ghost use Rattle.refusal.specs.Chain.{demand, then};
 ghost use Rattle.record.specs.Bytes.{laid};
 ghost use Rattle.record.specs.Digits.{digits};
 ghost use Rattle.record.specs.Heads.{editionBytes, encode, lawful};
-ghost use Rattle.record.specs.Reading.{faultAt, headAt, tooShort};
+ghost use Rattle.record.specs.Reading.{faultAt, headAt};
+ghost use Rattle.record.specs.Writing.{over, written};
 ghost use Rattle.record.specs.Told.{Alone, Exactly, ReadsBack, told};
 use super::digits::write_number;
 use super::head::Head;
@@ -68,6 +67,22 @@ fn lay_items(buffer: &mut [u8], items: &HeadItems)
     lay(buffer, 51, &items.second_language);
 }
 
+fn write_items(items: &HeadItems, buffer: &mut [u8]) -> Result<usize, SheetFault>
+    ensures value { λ r. ⌜ r ≡ written (now (buffer .entry)) ⌝ }
+    ensures after { λ _. ⌜ now (buffer .exit) ≡ over (now (items .entry)) (now (buffer .entry)) ⌝ }
+{
+    if buffer.len() < 53 {
+        let site = Site {
+            record: 0,
+            field: 0,
+            place: 0,
+        };
+        return Err(SheetFault::Own(SheetCause::BufferTooShort, site));
+    }
+    lay_items(buffer, items);
+    Ok(53)
+}
+
 fn items_at_front(message: &[u8]) -> Result<HeadItems, RecordFault>
     ensures { λ r. ⌜ r ≡ headAt (now (message .entry)) ⌝ }
 {
@@ -100,21 +115,11 @@ impl Head {
     /// Writes the record's 53 bytes to the front of a buffer and tells their number, or refusal 16
     /// where the buffer is shorter.
     pub fn write(&self, buffer: &mut [u8]) -> Result<usize, SheetFault>
-        ensures value { λ r. ⌜ r ≡ then (demand (leb 53 (length (now (buffer .entry)))) tooShort) (λ _. Ok 53) ⌝ }
+        ensures value { λ r. ⌜ r ≡ written (now (buffer .entry)) ⌝ }
+        ensures after { λ _. ⌜ now (buffer .exit) ≡ over (now (self .entry) .items) (now (buffer .entry)) ⌝ }
         ensures reads_back { λ _. ⌜ ReadsBack (now (self .entry) .items) ⌝ }
         ensures alone { λ _. ⌜ Alone (now (self .entry) .items) ⌝ }
-        ensures after { λ _. ⌜ now (buffer .exit) ≡ cond (leb 53 (length (now (buffer .entry)))) (encode (now (self .entry) .items) ++ drop 53 (now (buffer .entry))) (now (buffer .entry)) ⌝ }
     {
-        if buffer.len() < 53 {
-            let site = Site {
-                record: 0,
-                field: 0,
-                place: 0,
-            };
-            return Err(SheetFault::Own(SheetCause::BufferTooShort, site));
-        }
-        let items = self.items();
-        lay_items(buffer, &items);
-        Ok(53)
+        write_items(&self.items(), buffer)
     }
 }

@@ -2,12 +2,12 @@ use borrow.Author.Needs.{needs}
 use Rattle.record.proofs.Promises.{reads-back-all, alone-all}
 use Rattle.record.proofs.head.Head.write.Needs as need
 
-pub returns-then-buffer-lt53 : need.returns-then-buffer-lt53
-returns-then-buffer-lt53 c =
-    let h = c .args .self .now in
-    record { value = search needs; reads-back = reads-back-all (h .items) (h .checked); alone = alone-all (h .items) (h .checked); after = search needs }
-
 pub returns : need.returns
 returns c =
     let h = c .args .self .now in
-    record { value = search needs; reads-back = reads-back-all (h .items) (h .checked); alone = alone-all (h .items) (h .checked); after = search needs }
+    record {
+      value = c .write-items .ensures .value;
+      after = search needs;
+      reads-back = reads-back-all (h .items) (h .checked);
+      alone = alone-all (h .items) (h .checked);
+    }
