@@ -1,4 +1,5 @@
 ghost use mathlib.Core.Path.{_≡_};
+ghost use Prim.Native.Nat.{_+_, _*_};
 ghost use mathlib.Core.Bool.{true, _&&_};
 ghost use Rattle.std.specs.Options.{isSome};
 ghost use Rattle.std.specs.Slices.{found};
@@ -54,8 +55,7 @@ impl Moment {
         ensures ranks { λ _. ⌜ DaysRank ⌝ }
         ensures gapless { λ _. ⌜ DaysGapless ⌝ }
     {
-        let Date { day, month, year } = self.date;
-        days_before_year(year) + days_before_month(month, year) + (day - 1) as u32
+        count_days(self.date)
     }
 
     /// The seconds since 01.01.0001 00:00:00.
@@ -63,12 +63,21 @@ impl Moment {
         ensures counts { λ r. ⌜ r ≡ secondsOf (now (self .entry) .date) (now (self .entry) .time) ⌝ }
         ensures ranks { λ _. ⌜ SecondsRank ⌝ }
     {
-        let Time {
-            hour,
-            minute,
-            second,
-        } = self.time;
-        let hours = self.day_number() as u64 * 24 + hour as u64;
-        (hours * 60 + minute as u64) * 60 + second as u64
+        count_seconds(count_days(self.date), self.time)
     }
+}
+
+fn count_days(date: Date) -> u32
+    requires { ⌜ realDate date ≡ true ⌝ }
+    ensures { λ r. ⌜ r ≡ dayNumber date ⌝ }
+{
+    let before = days_before_year(date.year) + days_before_month(date.month, date.year);
+    before + (date.day - 1) as u32
+}
+
+fn count_seconds(days: u32, time: Time) -> u64
+    ensures { λ r. ⌜ r ≡ ((days * 24 + time .hour) * 60 + time .minute) * 60 + time .second ⌝ }
+{
+    let hours = days as u64 * 24 + time.hour as u64;
+    (hours * 60 + time.minute as u64) * 60 + time.second as u64
 }

@@ -1,6 +1,5 @@
-use borrow.Author.Needs.{needs}
 use Rattle.calendar.proofs.Ranking.{days-rank, days-gapless}
 use Rattle.calendar.proofs.moments.Moment.day_number.Needs as need
 
 pub returns : need.returns
-returns c = record { counts = search needs; ranks = days-rank; gapless = days-gapless }
+returns c = record { counts = c .count-days .ensures; ranks = days-rank; gapless = days-gapless }
