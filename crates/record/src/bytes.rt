@@ -8,7 +8,7 @@ fn is_within(byte: u8, low: u8, high: u8) -> bool
     low <= byte && byte <= high
 }
 
-// Whether each byte lies between two, both included.
+/// Whether each byte lies between two, both included.
 pub(crate) fn all_within(bytes: &[u8], low: u8, high: u8) -> bool
     ensures { λ r. ⌜ r ≡ every (within low high) (now (bytes .entry)) ⌝ }
 {

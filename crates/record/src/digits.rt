@@ -5,7 +5,7 @@ ghost use Rattle.std.specs.Vec.{made};
 ghost use Rattle.record.specs.Digits.{digits, numeral, digitValue};
 use refusal::ItemFault;
 
-// The value of one digit, or the given fault.
+/// The value of one digit, or the given fault.
 fn read_digit(byte: u8, fault: ItemFault) -> Result<u32, ItemFault>
     ensures { λ r. ⌜ r ≡ digitValue fault byte ⌝ }
 {
@@ -15,7 +15,7 @@ fn read_digit(byte: u8, fault: ItemFault) -> Result<u32, ItemFault>
     }
 }
 
-// The number that at most nine digits write, or the given fault.
+/// The number that at most nine digits write, or the given fault.
 pub fn read_number(item: &[u8], fault: ItemFault) -> Result<u32, ItemFault>
     ensures value { λ r. ⌜ r ≡ numeral fault (now (item .entry)) ⌝ }
     ensures bound { λ r. ⌜ made r (λ n. n < 10 ^ length (now (item .entry))) ⌝ }
@@ -30,7 +30,7 @@ pub fn read_number(item: &[u8], fault: ItemFault) -> Result<u32, ItemFault>
     Ok(value)
 }
 
-// Fills the item with the last digits of a number, zeros before them.
+/// Fills the item with the last digits of a number, zeros before them.
 pub fn write_number(item: &mut [u8], number: u32)
     ensures { λ _. ⌜ now (item .exit) ≡ digits (length (now (item .entry))) number ⌝ }
 {

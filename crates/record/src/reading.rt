@@ -3,7 +3,6 @@ ghost use mathlib.Core.Bool.{true};
 ghost use Prim.Native.Nat.{_≤_};
 ghost use lib.ListN.{length};
 ghost use Rattle.std.specs.Vec.{made};
-ghost use Rattle.refusal.specs.Chain.{demand};
 ghost use Rattle.record.specs.Digits.{numeral};
 ghost use Rattle.record.specs.Heads.{lawfulKey, lawfulLanguage, lawfulSecond};
 ghost use Rattle.record.specs.Reading.{editionAt, faultAt, flagsAt, itemsAt, tested};
@@ -18,6 +17,7 @@ use calendar::Date;
 use refusal::ItemCause;
 use refusal::ItemFault;
 use refusal::Site;
+use refusal::demand;
 
 pub(crate) fn head_fault(place: usize) -> ItemFault
     ensures { λ r. ⌜ r ≡ faultAt place ⌝ }
@@ -31,12 +31,6 @@ pub(crate) fn head_fault(place: usize) -> ItemFault
         cause: ItemCause::HeadItem,
         site,
     }
-}
-
-fn demand_item(holds: bool, fault: ItemFault) -> Result<(), ItemFault>
-    ensures { λ r. ⌜ r ≡ demand holds fault ⌝ }
-{
-    if holds { Ok(()) } else { Err(fault) }
 }
 
 fn two_digits(item: &[u8], fault: ItemFault) -> Result<u8, ItemFault>
@@ -65,7 +59,7 @@ fn read_edition(message: &[u8]) -> Result<Edition, ItemFault>
     let minute = two_digits(&message[46..48], fault)?;
     let date = Date { day, month, year };
     let edition = Edition { date, hour, minute };
-    demand_item(is_lawful_edition(&edition), fault)?;
+    demand(is_lawful_edition(&edition), fault)?;
     Ok(edition)
 }
 
@@ -75,7 +69,7 @@ fn read_flags(message: &[u8]) -> Result<u8, ItemFault>
 {
     let fault = head_fault(48);
     let flags = two_digits(&message[48..49], fault)?;
-    demand_item(flags <= 7, fault)?;
+    demand(flags <= 7, fault)?;
     Ok(flags)
 }
 
@@ -84,7 +78,7 @@ fn read_key(message: &[u8]) -> Result<[u8; 20], ItemFault>
     ensures { λ r. ⌜ r ≡ tested lawfulKey (now (message .entry)) 16 20 ⌝ }
 {
     let item = &message[16..36];
-    demand_item(is_lawful_key(item), head_fault(16))?;
+    demand(is_lawful_key(item), head_fault(16))?;
     let mut key = [0; 20];
     key.copy_from_slice(item);
     Ok(key)
@@ -95,7 +89,7 @@ fn read_language(message: &[u8]) -> Result<[u8; 2], ItemFault>
     ensures { λ r. ⌜ r ≡ tested lawfulLanguage (now (message .entry)) 49 2 ⌝ }
 {
     let item = &message[49..51];
-    demand_item(is_lawful_language(item), head_fault(49))?;
+    demand(is_lawful_language(item), head_fault(49))?;
     let mut language = [0; 2];
     language.copy_from_slice(item);
     Ok(language)
@@ -106,7 +100,7 @@ fn read_second(message: &[u8]) -> Result<[u8; 2], ItemFault>
     ensures { λ r. ⌜ r ≡ tested lawfulSecond (now (message .entry)) 51 2 ⌝ }
 {
     let item = &message[51..53];
-    demand_item(is_lawful_second(item), head_fault(51))?;
+    demand(is_lawful_second(item), head_fault(51))?;
     let mut language = [0; 2];
     language.copy_from_slice(item);
     Ok(language)

@@ -2,8 +2,6 @@ ghost use mathlib.Core.Path.{_≡_};
 ghost use Prim.Native.Nat.{_+_, _≤_};
 ghost use lib.ListN.{length};
 ghost use Rattle.std.specs.Vec.{made};
-ghost use Rattle.refusal.specs.Chain.{demand};
-ghost use Rattle.refusal.specs.declared.faults.RecordFault.the-variants.{Own};
 ghost use Rattle.record.specs.Start.{bodyLength, idAt, inRecord, lawfulId, lawfulLength, lawfulVersion, lengthAt, versionAt, whole};
 use super::bytes::all_within;
 use super::bytes::same_bytes;
@@ -14,8 +12,9 @@ use refusal::RecordCause;
 use refusal::RecordFault;
 use refusal::RecordFromItem;
 use refusal::Site;
+use refusal::demand;
 
-// The three kinds of record, by their ids.
+/// The three kinds of record, by their ids.
 #[derive(Clone, Copy)]
 pub enum RecordKind {
     Head,
@@ -55,25 +54,12 @@ impl RecordKind {
     }
 }
 
-// The given width of bytes is left at a site.
+/// The given width of bytes is left at a site.
 fn bytes_left(message: &[u8], site: Site, width: usize) -> Result<(), RecordFault>
     ensures { λ r. ⌜ r ≡ whole (now (message .entry)) site width ⌝ }
 {
-    if site.place > message.len() || message.len() - site.place < width {
-        return Err(RecordFault::Own(RecordCause::TooFewBytes, site));
-    }
-    Ok(())
-}
-
-// The given cause at a site, unless the test holds.
-fn demand_at(holds: bool, cause: RecordCause, site: Site) -> Result<(), RecordFault>
-    ensures { λ r. ⌜ r ≡ demand holds (Own cause site) ⌝ }
-{
-    if holds {
-        Ok(())
-    } else {
-        Err(RecordFault::Own(cause, site))
-    }
+    let left = site.place <= message.len() && width <= message.len() - site.place;
+    demand(left, RecordFault::Own(RecordCause::TooFewBytes, site))
 }
 
 fn read_id(message: &[u8], kind: RecordKind, site: Site) -> Result<(), RecordFault>
@@ -83,7 +69,10 @@ fn read_id(message: &[u8], kind: RecordKind, site: Site) -> Result<(), RecordFau
     bytes_left(message, site, 6)?;
     let place = site.place;
     let id = &message[place..place + 6];
-    demand_at(kind.accepts_id(id), RecordCause::WrongId, site)
+    demand(
+        kind.accepts_id(id),
+        RecordFault::Own(RecordCause::WrongId, site),
+    )
 }
 
 fn read_version(message: &[u8], kind: RecordKind, site: Site) -> Result<(), RecordFault>
@@ -93,10 +82,9 @@ fn read_version(message: &[u8], kind: RecordKind, site: Site) -> Result<(), Reco
     bytes_left(message, site, 2)?;
     let place = site.place;
     let version = &message[place..place + 2];
-    demand_at(
+    demand(
         kind.accepts_version(version),
-        RecordCause::WrongVersion,
-        site,
+        RecordFault::Own(RecordCause::WrongVersion, site),
     )
 }
 
@@ -111,12 +99,15 @@ fn read_length(message: &[u8], kind: RecordKind, site: Site) -> Result<usize, Re
         site,
     };
     let count = read_number(&message[place..place + 4], fault)? as usize;
-    demand_at(kind.accepts_length(count), RecordCause::WrongLength, site)?;
+    demand(
+        kind.accepts_length(count),
+        RecordFault::Own(RecordCause::WrongLength, site),
+    )?;
     Ok(count)
 }
 
-// The length of the body of a record that begins at a place, where its first twelve bytes are
-// lawful and its body is whole.
+/// The length of the body of a record that begins at a place, where its first twelve bytes are
+/// lawful and its body is whole.
 pub fn read_start(
     message: &[u8],
     kind: RecordKind,

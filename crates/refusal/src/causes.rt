@@ -1,47 +1,47 @@
 ghost use mathlib.Core.Path.{_≡_};
 ghost use Rattle.refusal.specs.Numbers.{itemNumber, recordNumber, sheetNumber};
 
-// What can be wrong with one item.
+/// What can be wrong with one item.
 #[derive(Clone, Copy)]
 pub enum ItemCause {
-    // no digit in a record length or a layout number
+    /// no digit in a record length or a layout number
     NoDigit,
-    // an unlawful item of a head
+    /// an unlawful item of a head
     HeadItem,
-    // an unlawful rectangle or formatting
+    /// an unlawful rectangle or formatting
     Rectangle,
-    // a malformed, unspelled or forbidden character
+    /// a malformed, unspelled or forbidden character
     Character,
 }
 
-// What can be wrong with a record whose items are lawful one by one.
+/// What can be wrong with a record whose items are lawful one by one.
 #[derive(Clone, Copy)]
 pub enum RecordCause {
-    // too few bytes left for an item of a record's first twelve, or for its body
+    /// too few bytes left for an item of a record's first twelve, or for its body
     TooFewBytes,
     WrongId,
     WrongVersion,
-    // the record's length disagrees with its content
+    /// the record's length disagrees with its content
     WrongLength,
-    // a layout standard other than RCT2
+    /// a layout standard other than RCT2
     WrongStandard,
-    // a text that does not fit its rectangle
+    /// a text that does not fit its rectangle
     TextTooLarge,
 }
 
-// What can be wrong with a call on a sheet whose items and records are lawful.
+/// What can be wrong with a call on a sheet whose items and records are lawful.
 #[derive(Clone, Copy)]
 pub enum SheetCause {
-    // no such field or carried record
+    /// no such field or carried record
     NoSuchEntry,
-    // no ticket was begun or opened
+    /// no ticket was begun or opened
     NoTicket,
     TooManyEntries,
-    // texts or carried bodies would exceed their memory
+    /// texts or carried bodies would exceed their memory
     MemoryExceeded,
-    // a page of under 15 lines or 72 columns
+    /// a page of under 15 lines or 72 columns
     PageTooSmall,
-    // a buffer shorter than the message
+    /// a buffer shorter than the message
     BufferTooShort,
 }
 

@@ -5,8 +5,8 @@ use super::causes::ItemCause;
 use super::causes::RecordCause;
 use super::causes::SheetCause;
 
-// Where a fault lies, each counted from 0 and 0 where it does not apply: the record in the message
-// (the head is 0), the field in the layout, and the byte in the message.
+/// Where a fault lies, each counted from 0 and 0 where it does not apply: the record in the message
+/// (the head is 0), the field in the layout, and the byte in the message.
 #[derive(Clone, Copy)]
 pub struct Site {
     pub record: usize,
@@ -14,21 +14,21 @@ pub struct Site {
     pub place: usize,
 }
 
-// Layer 1.
+/// Layer 1.
 #[derive(Clone, Copy)]
 pub struct ItemFault {
     pub cause: ItemCause,
     pub site: Site,
 }
 
-// Layer 2: a record's own fault, or that of one of its items.
+/// Layer 2: a record's own fault, or that of one of its items.
 #[derive(Clone, Copy)]
 pub enum RecordFault {
     Item(ItemFault),
     Own(RecordCause, Site),
 }
 
-// Layer 3: a sheet's own fault, or that of a record.
+/// Layer 3: a sheet's own fault, or that of a record.
 #[derive(Clone, Copy)]
 pub enum SheetFault {
     Record(RecordFault),

@@ -7,7 +7,7 @@ use super::faults::SheetFault;
 use super::faults::Site;
 use std::fmt;
 
-// The five figures of a refusal.
+/// The five figures of a refusal.
 #[derive(Clone, Copy, PartialEq, Eq, Debug)]
 pub struct Refusal {
     pub number: u8,

@@ -1,12 +1,14 @@
-// Why a message or a call is refused: one fault type for each layer (item, record, sheet), each
-// holding the one below it, and the five figures that a refusal tells.
+//! Why a message or a call is refused: one fault type for each layer (item, record, sheet), each
+//! holding the one below it, and the five figures that a refusal tells.
 mod causes;
+mod checks;
 mod faults;
 mod figures;
 
 pub use causes::ItemCause;
 pub use causes::RecordCause;
 pub use causes::SheetCause;
+pub use checks::demand;
 pub use faults::ItemFault;
 pub use faults::RecordFault;
 pub use faults::RecordFromItem;

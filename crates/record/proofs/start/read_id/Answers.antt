@@ -16,7 +16,7 @@ returns c =
     let s = c .args .site in
     let six : s .place + 6 - s .place ≡ 6 = omega arith in
     record {
-      value = c .demand-at .ensures
+      value = c .demand .ensures
           ∙ ap (λ t. demand t (Own WrongId s)) (c .accepts-id .ensures ∙ ap (λ k. lawfulId (c .args .kind) (take k (drop (s .place) m))) six)
           ∙ ap (λ t. then t (λ _. demand (lawfulId (c .args .kind) (part m (s .place) 6)) (Own WrongId s))) (c .in-Continue-bytes-left .ensures tt);
       room = search needs;
