@@ -1,7 +1,8 @@
 //! Dates and times of the Gregorian calendar, and the seconds since 01.01.0001 00:00:00.
 ghost use mathlib.Core.Path.{_≡_};
-ghost use Prim.Native.Nat.{_*_, _≤_};
-ghost use Rattle.calendar.specs.Gregorian.{leap, monthLength, realDate, realTime, daysBeforeYear, daysBeforeMonth};
+ghost use Prim.Native.Nat.{_-_, _*_, _≤_};
+ghost use lib.ListN.{getD};
+ghost use Rattle.calendar.specs.Gregorian.{leap, monthLengths, monthLength, realDate, realTime, daysBeforeYear, daysBeforeMonth};
 
 mod moments;
 
@@ -33,6 +34,14 @@ pub fn is_leap_year(year: u16) -> bool
     year % 4 == 0 && (year % 100 != 0 || year % 400 == 0)
 }
 
+/// The days of a month in a common year.
+fn common_length(month: u8) -> u8
+    requires { ⌜ (1 ≤ month) × (month ≤ 12) ⌝ }
+    ensures { λ r. ⌜ r ≡ getD monthLengths (month - 1) 0 ⌝ }
+{
+    MONTH_LENGTHS[(month - 1) as usize]
+}
+
 /// The number of days of a month, 0 where `month` is not 1 to 12.
 pub fn month_length(month: u8, year: u16) -> u8
     ensures answer { λ r. ⌜ r ≡ monthLength month year ⌝ }
@@ -40,7 +49,7 @@ pub fn month_length(month: u8, year: u16) -> u8
     if month < 1 || month > 12 {
         return 0;
     }
-    let common = MONTH_LENGTHS[(month - 1) as usize];
+    let common = common_length(month);
     if month == 2 && is_leap_year(year) {
         common + 1
     } else {
