@@ -2,7 +2,7 @@
 use Prim.Native.Nat.{ℕ, _+_, _^_, _<_, _≤_}
 use mathlib.Core.Path.{_≡_, refl, sym, ap, subst, _∙_}
 use mathlib.Core.Bool.{Bool, true, _&&_}
-use mathlib.Core.List.{List, _∷_, _++_}
+use mathlib.Core.List.{List, _∷_, _++_, append-assoc}
 use mathlib.Core.Logic.{⊎-elim}
 use native.Mathlib.Omega.{arith}
 use borrow.Author.Needs.{needs}
@@ -260,3 +260,12 @@ pub encode-unique : (g h : HeadItems) → lawful g ≡ true → lawful h ≡ tru
 encode-unique g h first second e =
     let whole : take 53 (encode g) ≡ encode g = take-all 53 (encode g) (omega (arith, length-encode g first)) in
     ok-same g h (sym (head-read (encode g) g first whole) ∙ head-read (encode g) h second (whole ∙ e))
+
+join-seven : (a b c d e f g : List ℕ) → a ++ b ++ c ++ d ++ e ++ f ++ g ≡ a ++ (b ++ (c ++ (d ++ (e ++ (f ++ g)))))
+join-seven a b c d e f g = simp append-assoc
+
+-- the items one behind another, as they are laid
+pub join-items : (h : HeadItems) → codes "U_HEAD010041" ++ digits 4 (h .carrier) ++ h .key ++ editionBytes (h .edition) ++ digits 1 (h .flags) ++ h .language ++ h .«second_language» ≡ encode h
+unfolding encode
+join-items h =
+    join-seven (codes "U_HEAD010041") (digits 4 (h .carrier)) (h .key) (editionBytes (h .edition)) (digits 1 (h .flags)) (h .language) (h .«second_language»)

@@ -4,7 +4,7 @@ ghost use Prim.Native.Nat.{_+_, _≤_};
 ghost use lib.ListN.{drop, length};
 ghost use Rattle.std.specs.declared.result.Result.the-variants.{Ok};
 ghost use Rattle.refusal.specs.Chain.{demand, then};
-ghost use Rattle.record.specs.Bytes.{laid};
+ghost use Rattle.lists.specs.Laying.{laid};
 ghost use Rattle.record.specs.Digits.{digits};
 ghost use Rattle.record.specs.Heads.{editionBytes, encode, lawful};
 ghost use Rattle.record.specs.Reading.{faultAt, headAt};

@@ -2,7 +2,7 @@ use Prim.Native.Nat.{_+_, _-_}
 use mathlib.Core.Path.{_≡_}
 use native.Mathlib.Omega.{arith}
 use lib.ListN.{length}
-use Rattle.record.proofs.Laying.{putMid-laid}
+use Rattle.lists.proofs.Laws.{putMid-laid}
 use Rattle.record.proofs.codec.lay.Needs as need
 
 pub returns : need.returns

@@ -4,7 +4,7 @@ use native.Mathlib.Omega.{arith}
 use lib.ListN.{length, take, drop}
 use Rattle.std.proofs.shelf.Lists.{length-take-le, length-drop}
 use Rattle.record.specs.Digits.{digits}
-use Rattle.record.proofs.Laying.{putMid-laid}
+use Rattle.lists.proofs.Laws.{putMid-laid}
 use Rattle.record.proofs.DigitLaws.{length-digits}
 use Rattle.record.proofs.codec.lay_number.Needs as need
 

@@ -1,0 +1,1 @@
+//! What several crates say of lists, once: definitions in `specs/` and laws in `proofs/`, no code.

@@ -1,0 +1,3 @@
+pub mod Places
+pub mod Fitting
+pub mod Packing

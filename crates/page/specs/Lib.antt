@@ -1,0 +1,4 @@
+pub mod Cells
+pub mod Pages
+pub mod Grids
+pub mod Offsets

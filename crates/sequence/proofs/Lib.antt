@@ -1,0 +1,3 @@
+pub mod PartLaws
+pub mod FrontLaws
+pub mod PieceLaws
