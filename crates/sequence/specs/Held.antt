@@ -11,13 +11,13 @@ abbrev pub held : {T : Type 0} → Sequence T → List T
 held s = take (s .len) (now (s .items))
 
 -- how many there may be
-abbrev pub capacity : {T : Type 0} → Sequence T → ℕ
-capacity s = length (now (s .items))
+abbrev pub roomFor : {T : Type 0} → Sequence T → ℕ
+roomFor s = length (now (s .items))
 
 -- the used bytes
 abbrev pub heldBytes : ByteStore → List ℕ
 heldBytes s = take (s .used) (now (s .bytes))
 
 -- how many there may be
-abbrev pub byteCapacity : ByteStore → ℕ
-byteCapacity s = length (now (s .bytes))
+abbrev pub byteRoomFor : ByteStore → ℕ
+byteRoomFor s = length (now (s .bytes))

@@ -6,7 +6,7 @@ ghost use lib.ListN.{length, set};
 ghost use lib.Dec.{ltb};
 ghost use Rattle.std.specs.shelf.Maps.{nth};
 ghost use Rattle.sequence.specs.Parts.{removed, raised};
-ghost use Rattle.sequence.specs.Held.{held, capacity as roomOf};
+ghost use Rattle.sequence.specs.Held.{held, roomFor};
 use super::moving::length_up_to;
 use super::moving::lies_within;
 use super::moving::move_behind;
@@ -22,7 +22,7 @@ impl<'a, T: Copy> Sequence<'a, T> {
     /// An empty list that may hold as many entries as the slice has, or fewer.
     pub fn new(items: &'a mut [T], capacity: usize) -> Sequence<'a, T>
         ensures empty { λ r. ⌜ held r ≡ [] ⌝ }
-        ensures room { λ r. ⌜ roomOf r ≡ min capacity (length (now (items .entry))) ⌝ }
+        ensures room { λ r. ⌜ roomFor r ≡ min capacity (length (now (items .entry))) ⌝ }
     {
         let room = capacity.min(items.len());
         Sequence {
@@ -33,13 +33,13 @@ impl<'a, T: Copy> Sequence<'a, T> {
 
     pub fn len(&self) -> usize
         ensures value { λ r. ⌜ r ≡ length (held (now (self .entry))) ⌝ }
-        ensures within { λ r. ⌜ r ≤ roomOf (now (self .entry)) ⌝ }
+        ensures within { λ r. ⌜ r ≤ roomFor (now (self .entry)) ⌝ }
     {
         length_up_to(self.items, self.len)
     }
 
     pub fn capacity(&self) -> usize
-        ensures { λ r. ⌜ r ≡ roomOf (now (self .entry)) ⌝ }
+        ensures { λ r. ⌜ r ≡ roomFor (now (self .entry)) ⌝ }
     {
         self.items.len()
     }
@@ -57,9 +57,9 @@ impl<'a, T: Copy> Sequence<'a, T> {
 
     /// Adds an entry behind the last, unless the list is full.
     pub fn push(&mut self, entry: T) -> bool
-        ensures told { λ r. ⌜ r ≡ ltb (length (held (now (self .entry)))) (roomOf (now (self .entry))) ⌝ }
+        ensures told { λ r. ⌜ r ≡ ltb (length (held (now (self .entry)))) (roomFor (now (self .entry))) ⌝ }
         ensures holds { λ r. ⌜ held (now (self .exit)) ≡ cond r (held (now (self .entry)) ++ entry ∷ []) (held (now (self .entry))) ⌝ }
-        ensures room { λ _. ⌜ roomOf (now (self .exit)) ≡ roomOf (now (self .entry)) ⌝ }
+        ensures room { λ _. ⌜ roomFor (now (self .exit)) ≡ roomFor (now (self .entry)) ⌝ }
         ensures refused { λ r. ⌜ (r ≡ false → now (self .exit) ≡ now (self .entry)) ⌝ }
     {
         let len = self.len();
@@ -76,7 +76,7 @@ impl<'a, T: Copy> Sequence<'a, T> {
     pub fn replace(&mut self, n: usize, entry: T) -> bool
         ensures told { λ r. ⌜ r ≡ ltb n (length (held (now (self .entry)))) ⌝ }
         ensures holds { λ _. ⌜ held (now (self .exit)) ≡ set (held (now (self .entry))) n entry ⌝ }
-        ensures room { λ _. ⌜ roomOf (now (self .exit)) ≡ roomOf (now (self .entry)) ⌝ }
+        ensures room { λ _. ⌜ roomFor (now (self .exit)) ≡ roomFor (now (self .entry)) ⌝ }
         ensures refused { λ r. ⌜ (r ≡ false → now (self .exit) ≡ now (self .entry)) ⌝ }
     {
         if n < self.len() {
@@ -91,7 +91,7 @@ impl<'a, T: Copy> Sequence<'a, T> {
     pub fn remove(&mut self, n: usize) -> bool
         ensures told { λ r. ⌜ r ≡ ltb n (length (held (now (self .entry)))) ⌝ }
         ensures holds { λ _. ⌜ held (now (self .exit)) ≡ removed n (held (now (self .entry))) ⌝ }
-        ensures room { λ _. ⌜ roomOf (now (self .exit)) ≡ roomOf (now (self .entry)) ⌝ }
+        ensures room { λ _. ⌜ roomFor (now (self .exit)) ≡ roomFor (now (self .entry)) ⌝ }
         ensures refused { λ r. ⌜ (r ≡ false → now (self .exit) ≡ now (self .entry)) ⌝ }
     {
         let len = self.len();
@@ -108,7 +108,7 @@ impl<'a, T: Copy> Sequence<'a, T> {
     pub fn raise(&mut self, n: usize) -> bool
         ensures told { λ r. ⌜ r ≡ ltb n (length (held (now (self .entry)))) ⌝ }
         ensures holds { λ _. ⌜ held (now (self .exit)) ≡ raised n (held (now (self .entry))) ⌝ }
-        ensures room { λ _. ⌜ roomOf (now (self .exit)) ≡ roomOf (now (self .entry)) ⌝ }
+        ensures room { λ _. ⌜ roomFor (now (self .exit)) ≡ roomFor (now (self .entry)) ⌝ }
         ensures refused { λ r. ⌜ (r ≡ false → now (self .exit) ≡ now (self .entry)) ⌝ }
     {
         let end = self.len();
@@ -122,7 +122,7 @@ impl<'a, T: Copy> Sequence<'a, T> {
 
     pub fn clear(&mut self)
         ensures holds { λ _. ⌜ held (now (self .exit)) ≡ [] ⌝ }
-        ensures room { λ _. ⌜ roomOf (now (self .exit)) ≡ roomOf (now (self .entry)) ⌝ }
+        ensures room { λ _. ⌜ roomFor (now (self .exit)) ≡ roomFor (now (self .entry)) ⌝ }
     {
         self.len = 0;
     }

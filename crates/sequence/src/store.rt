@@ -8,7 +8,7 @@ ghost use Rattle.std.specs.Options.{mapped};
 ghost use Rattle.std.specs.declared.option.Option.the-variants.{Some, None};
 ghost use Rattle.sequence.specs.Parts.{part, spliced, without, moved, removed, raised};
 ghost use Rattle.sequence.specs.Pieces.{joined, pieceAt, Lies, PiecesBecome, Room};
-ghost use Rattle.sequence.specs.Held.{heldBytes, byteCapacity};
+ghost use Rattle.sequence.specs.Held.{heldBytes, byteRoomFor};
 use super::moving::length_up_to;
 use super::moving::lies_within;
 use super::moving::move_behind;
@@ -24,7 +24,7 @@ impl<'a> ByteStore<'a> {
     /// An empty store of as many bytes as the slice has, or fewer.
     pub fn new(bytes: &'a mut [u8], capacity: usize) -> ByteStore<'a>
         ensures empty { λ r. ⌜ heldBytes r ≡ [] ⌝ }
-        ensures room { λ r. ⌜ byteCapacity r ≡ min capacity (length (now (bytes .entry))) ⌝ }
+        ensures room { λ r. ⌜ byteRoomFor r ≡ min capacity (length (now (bytes .entry))) ⌝ }
     {
         let room = capacity.min(bytes.len());
         ByteStore {
@@ -35,13 +35,13 @@ impl<'a> ByteStore<'a> {
 
     pub fn used(&self) -> usize
         ensures value { λ r. ⌜ r ≡ length (heldBytes (now (self .entry))) ⌝ }
-        ensures within { λ r. ⌜ r ≤ byteCapacity (now (self .entry)) ⌝ }
+        ensures within { λ r. ⌜ r ≤ byteRoomFor (now (self .entry)) ⌝ }
     {
         length_up_to(self.bytes, self.used)
     }
 
     pub fn capacity(&self) -> usize
-        ensures { λ r. ⌜ r ≡ byteCapacity (now (self .entry)) ⌝ }
+        ensures { λ r. ⌜ r ≡ byteRoomFor (now (self .entry)) ⌝ }
     {
         self.bytes.len()
     }
@@ -64,11 +64,11 @@ impl<'a> ByteStore<'a> {
     /// Refused where the range is not within the used part, or the room is not there. What the new
     /// room holds is not said.
     pub fn resize_range(&mut self, place: usize, old_count: usize, new_count: usize) -> bool
-        ensures told { λ r. ⌜ r ≡ (leb (place + «old_count») (length (heldBytes (now (self .entry)))) && leb (length (heldBytes (now (self .entry))) - «old_count» + «new_count») (byteCapacity (now (self .entry)))) ⌝ }
+        ensures told { λ r. ⌜ r ≡ (leb (place + «old_count») (length (heldBytes (now (self .entry)))) && leb (length (heldBytes (now (self .entry))) - «old_count» + «new_count») (byteRoomFor (now (self .entry)))) ⌝ }
         ensures holds { λ r. ⌜ (r ≡ true → Room «new_count» (λ gap. heldBytes (now (self .exit)) ≡ spliced place «old_count» gap (heldBytes (now (self .entry))))) ⌝ }
         ensures pieces { λ r. ⌜ (r ≡ true → (ps : List (List ℕ)) (n : ℕ) → Lies ps n (heldBytes (now (self .entry))) place «old_count» → Room «new_count» (λ gap. heldBytes (now (self .exit)) ≡ joined (set ps n gap))) ⌝ }
         ensures added { λ r. ⌜ (r ≡ true → (ps : List (List ℕ)) → joined ps ≡ heldBytes (now (self .entry)) → place ≡ length (heldBytes (now (self .entry))) → Room «new_count» (λ gap. heldBytes (now (self .exit)) ≡ joined (ps ++ gap ∷ []))) ⌝ }
-        ensures room { λ _. ⌜ byteCapacity (now (self .exit)) ≡ byteCapacity (now (self .entry)) ⌝ }
+        ensures room { λ _. ⌜ byteRoomFor (now (self .exit)) ≡ byteRoomFor (now (self .entry)) ⌝ }
         ensures refused { λ r. ⌜ (r ≡ false → now (self .exit) ≡ now (self .entry)) ⌝ }
     {
         let used = self.used();
@@ -89,7 +89,7 @@ impl<'a> ByteStore<'a> {
         ensures told { λ r. ⌜ r ≡ leb (place + length (now (bytes .entry))) (length (heldBytes (now (self .entry)))) ⌝ }
         ensures holds { λ r. ⌜ heldBytes (now (self .exit)) ≡ cond r (spliced place (length (now (bytes .entry))) (now (bytes .entry)) (heldBytes (now (self .entry)))) (heldBytes (now (self .entry))) ⌝ }
         ensures pieces { λ r. ⌜ PiecesBecome (heldBytes (now (self .entry))) place (length (now (bytes .entry))) r (heldBytes (now (self .exit))) (λ ps n. set ps n (now (bytes .entry))) ⌝ }
-        ensures room { λ _. ⌜ byteCapacity (now (self .exit)) ≡ byteCapacity (now (self .entry)) ⌝ }
+        ensures room { λ _. ⌜ byteRoomFor (now (self .exit)) ≡ byteRoomFor (now (self .entry)) ⌝ }
         ensures refused { λ r. ⌜ (r ≡ false → now (self .exit) ≡ now (self .entry)) ⌝ }
     {
         if lies_within(place, bytes.len(), self.used()) {
@@ -106,7 +106,7 @@ impl<'a> ByteStore<'a> {
         ensures told { λ r. ⌜ r ≡ leb (place + count) (length (heldBytes (now (self .entry)))) ⌝ }
         ensures holds { λ r. ⌜ heldBytes (now (self .exit)) ≡ cond r (without place count (heldBytes (now (self .entry)))) (heldBytes (now (self .entry))) ⌝ }
         ensures pieces { λ r. ⌜ PiecesBecome (heldBytes (now (self .entry))) place count r (heldBytes (now (self .exit))) (λ ps n. removed n ps) ⌝ }
-        ensures room { λ _. ⌜ byteCapacity (now (self .exit)) ≡ byteCapacity (now (self .entry)) ⌝ }
+        ensures room { λ _. ⌜ byteRoomFor (now (self .exit)) ≡ byteRoomFor (now (self .entry)) ⌝ }
         ensures refused { λ r. ⌜ (r ≡ false → now (self .exit) ≡ now (self .entry)) ⌝ }
     {
         let used = self.used();
@@ -124,7 +124,7 @@ impl<'a> ByteStore<'a> {
         ensures told { λ r. ⌜ r ≡ leb (place + count) (length (heldBytes (now (self .entry)))) ⌝ }
         ensures holds { λ r. ⌜ heldBytes (now (self .exit)) ≡ cond r (moved place count (heldBytes (now (self .entry)))) (heldBytes (now (self .entry))) ⌝ }
         ensures pieces { λ r. ⌜ PiecesBecome (heldBytes (now (self .entry))) place count r (heldBytes (now (self .exit))) (λ ps n. raised n ps) ⌝ }
-        ensures room { λ _. ⌜ byteCapacity (now (self .exit)) ≡ byteCapacity (now (self .entry)) ⌝ }
+        ensures room { λ _. ⌜ byteRoomFor (now (self .exit)) ≡ byteRoomFor (now (self .entry)) ⌝ }
         ensures refused { λ r. ⌜ (r ≡ false → now (self .exit) ≡ now (self .entry)) ⌝ }
     {
         let end = self.used();
@@ -138,7 +138,7 @@ impl<'a> ByteStore<'a> {
 
     pub fn clear(&mut self)
         ensures holds { λ _. ⌜ heldBytes (now (self .exit)) ≡ [] ⌝ }
-        ensures room { λ _. ⌜ byteCapacity (now (self .exit)) ≡ byteCapacity (now (self .entry)) ⌝ }
+        ensures room { λ _. ⌜ byteRoomFor (now (self .exit)) ≡ byteRoomFor (now (self .entry)) ⌝ }
     {
         self.used = 0;
     }

@@ -5,7 +5,7 @@ use native.Mathlib.Omega.{arith}
 use mathlib.Core.List.{[], _∷_, _++_}
 use Rattle.std.proofs.shelf.Lists.{take-more-set}
 use Rattle.std.proofs.shelf.Tests.{leb-true}
-use Rattle.sequence.specs.Held.{capacity}
+use Rattle.sequence.specs.Held.{roomFor}
 use Rattle.sequence.proofs.FrontLaws.{front-same}
 use Rattle.sequence.proofs.list.Sequence.push.Needs as need
 
@@ -13,7 +13,7 @@ pub returns-then-lies-within : need.returns-then-lies-within
 returns-then-lies-within g c =
     let s = c .args .self .now in
     let k = c .len-len .result in
-    let free : k + 1 ≤ capacity s = omega (arith, leb-true (k + 1) (c .capacity .result) (sym (c .if-lies-within .ensures tt))) in
+    let free : k + 1 ≤ roomFor s = omega (arith, leb-true (k + 1) (c .capacity .result) (sym (c .if-lies-within .ensures tt))) in
     record {
       told = search needs;
       holds = take-more-set (s .items .now) k (c .args .entry) (omega arith)
