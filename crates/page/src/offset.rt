@@ -1,5 +1,5 @@
 ghost use mathlib.Core.Path.{_≡_};
-ghost use Prim.Native.Nat.{ℕ, _+_, _-_};
+ghost use Prim.Native.Nat.{ℕ, _+_, _-_, _<_};
 ghost use Rattle.page.specs.Offsets.{OffsetAround, offsetCells, offsetColumns, offsetLines};
 use super::cell::Cell;
 use super::cell::Placed;
@@ -21,7 +21,7 @@ impl<P: Page> OffsetPage<P> {
         ensures below { λ r. ⌜ r .below ≡ below ⌝ }
         ensures shift { λ r. ⌜ (r .down ≡ lines) × (r .right ≡ columns) ⌝ }
         ensures size { λ r. ⌜ (offsetLines (P·Page .lines) r ≡ P·Page .lines below - lines) × (offsetColumns (P·Page .columns) r ≡ P·Page .columns below - columns) ⌝ }
-        ensures cells { λ r. ⌜ ((l c : ℕ) → offsetCells (P·Page .cells) r l c ≡ P·Page .cells below (l + lines) (c + columns)) ⌝ }
+        ensures cells { λ r. ⌜ ((l c : ℕ) → l < offsetLines (P·Page .lines) r → c < offsetColumns (P·Page .columns) r → offsetCells (P·Page .cells) r l c ≡ P·Page .cells below (l + lines) (c + columns)) ⌝ }
     {
         OffsetPage {
             below,

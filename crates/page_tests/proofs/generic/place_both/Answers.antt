@@ -1,8 +1,7 @@
-use mathlib.Core.Path.{_≡_, sym, ap, _∙_}
-use Prim.Native.Nat.{_<_, _≤_}
+use mathlib.Core.Path.{ap, _∙_}
 use native.Mathlib.Omega.{arith}
 use Rattle.page.specs.declared.cell.Placed.{Placed}
-use Rattle.page.specs.Pages.{painted, placing}
+use Rattle.page.specs.Pages.{painted}
 use Rattle.page_tests.proofs.generic.place_both.Needs as need
 
 pub returns : need.returns

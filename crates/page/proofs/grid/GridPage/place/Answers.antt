@@ -1,14 +1,13 @@
 use mathlib.Core.Path.{_≡_, sym, ap, _∙_}
 use mathlib.Core.Bool.{true}
-use Prim.Native.Nat.{_<_, _+_, _*_}
+use Prim.Native.Nat.{_+_, _*_}
 use lib.Dec.{ltb}
-use borrow.Author.Needs.{needs}
 use Rattle.std.proofs.shelf.Tests.{and-parts, ltb-true, cond-true}
 use Rattle.page.specs.declared.cell.Size.{Size}
 use Rattle.page.specs.declared.cell.Placed.the-variants.{Outside, Set, Unlawful}
 use Rattle.page.specs.Cells.{lawfulCell}
 use Rattle.page.specs.Grids.{fittingSize, gridCells, gridSize}
-use Rattle.page.specs.Pages.{inside, placing}
+use Rattle.page.specs.Pages.{inside}
 use Rattle.page.proofs.Places.{index-at, shown-set}
 use Rattle.page.proofs.grid.GridPage.place.Needs as need
 

@@ -1,7 +1,4 @@
-use mathlib.Core.Path.{_≡_, subst, sym, _∙_}
-use native.Mathlib.Omega.{arith}
-use mathlib.Core.Logic.{_⊎_}
-use Prim.Native.Nat.{_<_}
+use mathlib.Core.Path.{_∙_}
 use Rattle.page.proofs.offset.ShiftedPage.the-impl.Needs as need
 
 pub goes-law : need.goes-law
