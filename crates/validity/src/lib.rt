@@ -1,5 +1,6 @@
 //! What a ticket's texts say in a fixed form: its zones and its period, and which field says it.
 mod answer;
+mod bytes;
 mod groups;
 mod layers;
 mod marks;

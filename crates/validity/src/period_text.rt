@@ -1,18 +1,12 @@
 ghost use mathlib.Core.Path.{_≡_};
 ghost use Prim.Native.Nat.{_+_, _≤_};
 ghost use lib.ListN.{length};
-ghost use Rattle.std.specs.shelf.Text.{sameBytes};
 ghost use Rattle.validity.specs.Periods.{momentText, twoAt, MomentOf, PeriodOf, InEveryCode};
 use super::answer::Period;
+use super::bytes::same_bytes;
 use calendar::Date;
 use calendar::Moment;
 use calendar::Time;
-
-fn same_bytes(a: &[u8], b: &[u8]) -> bool
-    ensures { λ r. ⌜ r ≡ sameBytes (now (a .entry)) (now (b .entry)) ⌝ }
-{
-    a == b
-}
 
 /// What two bytes write if they are digits.
 fn two_at(text: &[u8], at: usize) -> u8

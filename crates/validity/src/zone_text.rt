@@ -6,6 +6,7 @@ ghost use Rattle.validity.specs.Listing.{netz};
 ghost use Rattle.validity.specs.ZoneLaws.{KindLaw, SetLaw, ZonesIn};
 use super::answer::ZoneKind;
 use super::answer::Zones;
+use super::bytes::same_bytes;
 use super::groups::listed_words;
 use super::marks::all_zones;
 use super::marks::count_zones;
@@ -16,8 +17,7 @@ use text_code::ReadingCode;
 fn is_netz(bytes: &[u8]) -> bool
     ensures { λ r. ⌜ r ≡ sameBytes (now (bytes .entry)) netz ⌝ }
 {
-    let netz: &[u8] = b"Netz";
-    bytes == netz
+    same_bytes(bytes, b"Netz")
 }
 
 /// The zones that a text tells. Bytes that spell no text tell none.
