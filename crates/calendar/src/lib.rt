@@ -1,4 +1,6 @@
 //! Dates and times of the Gregorian calendar, and the seconds since 01.01.0001 00:00:00.
+#![tactic(auto)]
+
 ghost use Rattle.std.specs.Prelude.{◌≡◌, ◌-◌, ◌*◌, ◌≤◌, slice_index};
 ghost use Rattle.calendar.specs.Gregorian.{leap, month_lengths, month_length, real_date, real_time, days_before_year, days_before_month};
 

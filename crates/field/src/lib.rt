@@ -1,4 +1,6 @@
 //! The parts of a field of a ticket: its rectangle on the area, and its formatting.
+#![tactic(auto)]
+
 mod formatting;
 mod making;
 mod placed;

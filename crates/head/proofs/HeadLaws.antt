@@ -10,8 +10,8 @@ use Rattle.calendar.proofs.Bounds.{date_bounds, time_bounds}
 use Rattle.refusal.specs.declared.faults.ItemFault.{ItemFault}
 use Rattle.refusal.specs.Chain.{lift, demand}
 use Rattle.refusal.specs.declared.faults.RecordFault.TheVariants.{Item}
-use Rattle.bytes.specs.Bytes.{part, every, is_printable}
-use Rattle.bytes.specs.Digits.{numeral, digits}
+use Rattle.octets.specs.Bytes.{part, every, is_printable}
+use Rattle.octets.specs.Digits.{numeral, digits}
 use Rattle.record.specs.Start.{body_length}
 use Rattle.head.specs.Heads.{is_letter, lawful, lawful_key, lawful_edition, lawful_language, lawful_second, edition_bytes, encode}
 use Rattle.head.specs.Reading.{fault_at, tested, edition_at, flags_at, items_at, head_at}
@@ -19,8 +19,8 @@ use Rattle.head.specs.declared.items.Edition.{Edition}
 use Rattle.head.specs.declared.items.HeadItems.{HeadItems}
 use Rattle.record.specs.declared.start.RecordKind.TheVariants.{Head}
 use Rattle.refusal.proofs.Chains.{ok_same, then_ok, then_go, lift_ok, demand_ok, demand_go}
-use Rattle.bytes.proofs.DigitLaws.{length_digits}
-use Rattle.bytes.proofs.PartLaws.{join_parts, cut_parts, number_told, number_read}
+use Rattle.octets.proofs.DigitLaws.{length_digits}
+use Rattle.octets.proofs.PartLaws.{join_parts, cut_parts, number_told, number_read}
 use Rattle.record.proofs.StartLaws.{start_told, start_read}
 
 -- the first twelve bytes

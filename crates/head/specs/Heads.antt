@@ -2,8 +2,8 @@
 use Rattle.std.specs.Prelude.{ℕ, Bool, ◌&&◌, ◌||◌, List, ◌++◌, length, codes, ◌==◌, nat_le, slice_index}
 use Rattle.std.specs.Str.{bytes_eq}
 use Rattle.calendar.specs.Gregorian.{real_date, real_time}
-use Rattle.bytes.specs.Bytes.{within, every, is_printable}
-use Rattle.bytes.specs.Digits.{digits}
+use Rattle.octets.specs.Bytes.{within, every, is_printable}
+use Rattle.octets.specs.Digits.{digits}
 use Rattle.head.specs.declared.items.Edition.{Edition}
 use Rattle.head.specs.declared.items.HeadItems.{HeadItems}
 

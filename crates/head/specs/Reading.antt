@@ -5,8 +5,8 @@ use Rattle.refusal.specs.declared.causes.ItemCause.TheVariants.{HeadItem}
 use Rattle.refusal.specs.declared.faults.ItemFault.{ItemFault}
 use Rattle.refusal.specs.declared.faults.RecordFault.{RecordFault}
 use Rattle.refusal.specs.declared.faults.RecordFault.TheVariants.{Item}
-use Rattle.bytes.specs.Bytes.{part}
-use Rattle.bytes.specs.Digits.{numeral}
+use Rattle.octets.specs.Bytes.{part}
+use Rattle.octets.specs.Digits.{numeral}
 use Rattle.record.specs.Start.{in_record, body_length}
 use Rattle.head.specs.Heads.{lawful_key, lawful_edition, lawful_language, lawful_second}
 use Rattle.head.specs.declared.items.Edition.{Edition}

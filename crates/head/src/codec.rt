@@ -1,7 +1,7 @@
 ghost use Rattle.std.specs.Prelude.{◌≡◌, ◌+◌, ◌≤◌, ◌++◌, length, drop, Ok};
 ghost use Rattle.refusal.specs.Chain.{demand, then};
 ghost use Rattle.lists.specs.Laying.{laid};
-ghost use Rattle.bytes.specs.Digits.{digits};
+ghost use Rattle.octets.specs.Digits.{digits};
 ghost use Rattle.head.specs.Heads.{edition_bytes, encode, lawful};
 ghost use Rattle.head.specs.Reading.{fault_at, head_at};
 ghost use Rattle.head.specs.Writing.{over, written};
@@ -10,7 +10,7 @@ ghost use Rattle.head.specs.Told.{Alone, Exactly, ReadsBack, told};
 use super::head::Head;
 use super::items::{Edition, HeadItems};
 use super::reading::{head_fault, read_items};
-use bytes::write_number;
+use octets::write_number;
 use record::{RecordKind, read_start};
 use refusal::{ItemFault, RecordFault, SheetCause, SheetFault, Site};
 

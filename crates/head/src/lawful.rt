@@ -2,8 +2,8 @@ ghost use Rattle.std.specs.Prelude.{◌≡◌};
 ghost use Rattle.head.specs.Heads.{is_letter, lawful, lawful_edition, lawful_key, lawful_language, lawful_second};
 
 use super::items::{Edition, HeadItems};
-use bytes::{all_within, same_bytes};
 use calendar::Time;
+use octets::{all_within, same_bytes};
 
 pub(crate) fn is_lawful_key(key: &[u8]) -> bool
     ensures { result ≡ lawful_key key.now }

@@ -1,4 +1,6 @@
 //! The head record of a ticket message: its items, reading and writing it.
+#![tactic(auto)]
+
 mod codec;
 mod head;
 mod items;

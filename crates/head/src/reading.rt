@@ -1,12 +1,12 @@
 ghost use Rattle.std.specs.Prelude.{◌≡◌, ◌≤◌, length};
-ghost use Rattle.bytes.specs.Digits.{numeral};
+ghost use Rattle.octets.specs.Digits.{numeral};
 ghost use Rattle.head.specs.Heads.{lawful_key, lawful_language, lawful_second};
 ghost use Rattle.head.specs.Reading.{edition_at, fault_at, flags_at, items_at, tested};
 
 use super::items::{Edition, HeadItems};
 use super::lawful::{is_lawful_edition, is_lawful_key, is_lawful_language, is_lawful_second};
-use bytes::read_number;
 use calendar::Date;
+use octets::read_number;
 use refusal::{ItemCause, ItemFault, Site, demand};
 
 pub(crate) fn head_fault(place: usize) -> ItemFault

@@ -7,8 +7,8 @@ use Rattle.refusal.specs.declared.causes.RecordCause.TheVariants.{WrongLength}
 use Rattle.refusal.specs.declared.faults.RecordFault.TheVariants.{Own}
 use Rattle.refusal.specs.declared.faults.SheetFault.{SheetFault}
 use Rattle.refusal.specs.declared.faults.SheetFault.TheVariants.{Record}
-use Rattle.bytes.specs.Bytes.{part}
-use Rattle.bytes.proofs.PartLaws.{stands_part}
+use Rattle.octets.specs.Bytes.{part}
+use Rattle.octets.proofs.PartLaws.{stands_part}
 use Rattle.field.specs.Fields.{Field}
 use Rattle.head.specs.Reading.{head_at}
 use Rattle.record.specs.Start.{in_record, body_length}

@@ -7,8 +7,8 @@ use Rattle.refusal.specs.declared.causes.RecordCause.TheVariants.{WrongLength}
 use Rattle.refusal.specs.declared.faults.RecordFault.TheVariants.{Own}
 use Rattle.refusal.specs.declared.faults.SheetFault.{SheetFault}
 use Rattle.refusal.specs.declared.faults.SheetFault.TheVariants.{Record}
-use Rattle.bytes.specs.Digits.{digits}
-use Rattle.bytes.proofs.DigitLaws.{length_digits}
+use Rattle.octets.specs.Digits.{digits}
+use Rattle.octets.proofs.DigitLaws.{length_digits}
 use Rattle.field.specs.Fields.{Field}
 use Rattle.head.specs.Reading.{head_at}
 use Rattle.head.specs.declared.items.HeadItems.{HeadItems}

@@ -2,7 +2,7 @@
 use Rattle.std.specs.Prelude.{ℕ, ◌+◌, List, Ok, Err, Result}
 use Rattle.field.specs.Areas.{Area, area_of}
 use Rattle.field.specs.declared.formatting.Formatting.{Formatting}
-use Rattle.bytes.specs.Bytes.{part}
+use Rattle.octets.specs.Bytes.{part}
 use Rattle.message.specs.declared.items.FieldItems.{FieldItems}
 use Rattle.message.specs.declared.items.CarriedItems.{CarriedItems}
 use Rattle.ticket.specs.Tickets.{CarriedRecord}

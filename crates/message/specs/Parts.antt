@@ -5,7 +5,7 @@ use Rattle.refusal.specs.Chain.{then, demand}
 use Rattle.refusal.specs.declared.causes.SheetCause.TheVariants.{NoSuchEntry}
 use Rattle.refusal.specs.declared.faults.SheetFault.{SheetFault}
 use Rattle.refusal.specs.declared.faults.SheetFault.TheVariants.{Own}
-use Rattle.bytes.specs.Bytes.{part}
+use Rattle.octets.specs.Bytes.{part}
 use Rattle.field.specs.Fields.{Field}
 use Rattle.message.specs.Items.{Shape, seen}
 use Rattle.message.specs.Rooms.{largest, room_of}

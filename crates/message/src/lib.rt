@@ -1,4 +1,6 @@
 //! Reading a ticket message from left to right.
+#![tactic(auto)]
+
 mod areas;
 mod carried;
 mod contents;

@@ -1,7 +1,7 @@
 ghost use Rattle.std.specs.Prelude.{◌≡◌, ◌+◌, ◌^◌, ◌<◌, ◌≤◌, length, IfOk, OnOk};
 ghost use Rattle.ticket.specs.Reading.{in_body, number_at, in_field};
 
-use bytes::read_number;
+use octets::read_number;
 use refusal::{ItemCause, ItemFault, RecordCause, RecordFault, Site, demand};
 
 /// A place in a field of the layout.

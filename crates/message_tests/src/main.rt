@@ -1,4 +1,6 @@
 //! Reads a table of messages on standard input, one to a line, and prints what reading each of them answers.
+#![tactic(auto)]
+
 mod answer;
 mod case;
 mod second_pass;

@@ -2,7 +2,7 @@
 use Rattle.std.proofs.Common.{◌≡◌, ℕ, ◌+◌, ◌-◌, ◌*◌, ◌^◌, ◌≤◌, min, true, leb, List, [], ◌∷◌, ◌++◌, length, drop, codes, Option, sym, refl, ap, ◌∙◌, arith}
 use Rattle.std.proofs.lemmas.List.{append_assoc, length-append}
 use Rattle.std.proofs.lemmas.Bool.{cond-true, le-leb}
-use Rattle.std.specs.List.{AllByRecursion as All}
+use Rattle.std.specs.List.{AllByRecursion}
 use Rattle.field.specs.Fields.{Field}
 use Rattle.head.specs.Heads.{encode as head_bytes, lawful as lawful_head}
 use Rattle.head.specs.Writing.{over}
@@ -22,7 +22,7 @@ length_fields : (f : ℕ → Option (List ℕ)) (xs : List Field) → length (fi
 length_fields f [] = refl
 length_fields f (x ∷ xs) = length-append (field_bytes f x) (fields_bytes f xs) ∙ omega (arith, length_field f x, length_fields f xs)
 
-length_carried : (rs : List CarriedRecord) → All LawfulCarried rs → length (carried_bytes rs) ≡ 12 * length rs + body_total rs
+length_carried : (rs : List CarriedRecord) → AllByRecursion LawfulCarried rs → length (carried_bytes rs) ≡ 12 * length rs + body_total rs
 length_carried [] fine = refl
 length_carried (r ∷ rs) fine =
     length-append (record_bytes r.id r.version r.body) (carried_bytes rs)
@@ -39,7 +39,7 @@ length_message f t fine =
     ∙ omega (arith, length-encode t.head fine.head, length-append layout (carried_bytes t.carried), length_layout f t.fields, length_carried t.carried fine.carried)
 
 -- eight bodies at most, each of four digits
-bodies_short : (rs : List CarriedRecord) → All LawfulCarried rs → body_total rs ≤ 9999 * length rs
+bodies_short : (rs : List CarriedRecord) → AllByRecursion LawfulCarried rs → body_total rs ≤ 9999 * length rs
 bodies_short [] fine = omega arith
 bodies_short (r ∷ rs) fine = omega (arith, fine.0.short, bodies_short rs fine.1)
 
@@ -49,11 +49,11 @@ length_of_message n size e f t fine same =
     let short : message_length (needs f t) ≤ 2 ^ 64 - 1 = omega (arith, fine.layout, length_layout f t.fields, bodies_short t.carried fine.carried, fine.few) in
     omega (arith, e, ap message_length same)
 
-texts_short : (f : ℕ → Option (List ℕ)) (xs : List Field) (most : ℕ) → text_total f xs ≤ most → All (λ x. length (text_bytes f x.characters) ≤ most) xs
+texts_short : (f : ℕ → Option (List ℕ)) (xs : List Field) (most : ℕ) → text_total f xs ≤ most → AllByRecursion (λ x. length (text_bytes f x.characters) ≤ most) xs
 texts_short f [] most h = tt
 texts_short f (x ∷ xs) most h = (omega arith, texts_short f xs most (omega arith))
 
-each_body : (rs : List CarriedRecord) → All LawfulCarried rs → All (λ r. length r.body ≤ 9999) rs
+each_body : (rs : List CarriedRecord) → AllByRecursion LawfulCarried rs → AllByRecursion (λ r. length r.body ≤ 9999) rs
 each_body [] fine = tt
 each_body (r ∷ rs) fine = (fine.0.short, each_body rs fine.1)
 

@@ -1,7 +1,7 @@
 -- Laws of the parts' bytes.
 use Rattle.std.proofs.Common.{◌≡◌, ℕ, ◌+◌, List, ◌++◌, length, sym, ap, ◌∙◌, arith}
 use Rattle.std.proofs.lemmas.List.{append-nil, length-append}
-use Rattle.bytes.specs.Digits.{digits}
+use Rattle.octets.specs.Digits.{digits}
 use Rattle.field.specs.Areas.{Area}
 use Rattle.ticket.specs.Tickets.{fields_bytes, record_bytes, text_bytes}
 use Rattle.message_writer.specs.Parts.{BytesOfField, StartsLayout, field_bytes_of, joined, layout_start, record_items}

@@ -1,6 +1,6 @@
 -- The length of a whole message, and that it is laid by its parts.
 use Rattle.std.specs.Prelude.{◌≡◌, ℕ, ◌+◌, ◌*◌, ◌≤◌, List, [], ◌∷◌, ◌++◌, length, drop, Option}
-use Rattle.std.specs.List.{AllByRecursion as All}
+use Rattle.std.specs.List.{AllByRecursion}
 use Rattle.field.specs.Fields.{Field}
 use Rattle.head.specs.Writing.{over}
 use Rattle.ticket.specs.Lawful.{Lawful, Room, needs}
@@ -33,8 +33,8 @@ parts_of f t = layout_start (length t.fields) (length (layout_body f t.fields)) 
 pub record Countable (f : ℕ → Option (List ℕ)) (t : Ticket) : Type 0 where
   pub fields : length t.fields ≤ 9999
   pub layout : length (layout_body f t.fields) ≤ 9999
-  pub texts : All (λ x. length (text_bytes f x.characters) ≤ 9999) t.fields
-  pub bodies : All (λ r. length r.body ≤ 9999) t.carried
+  pub texts : AllByRecursion (λ x. length (text_bytes f x.characters) ≤ 9999) t.fields
+  pub bodies : AllByRecursion (λ r. length r.body ≤ 9999) t.carried
 
 -- the parts end where the message ends; laid behind the head, which is written to the front, they are the message, with what stood behind it
 pub record LaidByParts (f : ℕ → Option (List ℕ)) (t : Ticket) (size : ℕ) (buffer : List ℕ) : Type 0 where

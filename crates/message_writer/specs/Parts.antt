@@ -1,6 +1,6 @@
 -- The parts of a ticket message that stand behind its head, each as the items that it is laid of.
 use Rattle.std.specs.Prelude.{◌≡◌, ℕ, List, [], ◌∷◌, ◌++◌, length, codes, Option}
-use Rattle.bytes.specs.Digits.{digits}
+use Rattle.octets.specs.Digits.{digits}
 use Rattle.field.specs.Areas.{Area}
 use Rattle.field.specs.Fields.{Field}
 use Rattle.ticket.specs.Tickets.{field_bytes, fields_bytes, layout_body, record_bytes, text_bytes}

@@ -1,8 +1,8 @@
 ghost use Rattle.std.specs.Prelude.{◌≡◌, ◌+◌, ◌≤◌, length};
 ghost use Rattle.lists.specs.Laying.{laid};
-ghost use Rattle.bytes.specs.Digits.{digits};
+ghost use Rattle.octets.specs.Digits.{digits};
 
-use bytes::write_number;
+use octets::write_number;
 
 /// Lays an item over the bytes from a place on and tells the place behind it.
 pub(crate) fn lay(buffer: &mut [u8], place: usize, item: &[u8]) -> usize

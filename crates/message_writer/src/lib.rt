@@ -1,5 +1,7 @@
 //! Laying the parts of a ticket message into a buffer: the layout's start, a field and a carried record, each over its
 //! own bytes and no other. The head, which stands before them, is written by `head`.
+#![tactic(auto)]
+
 mod carried;
 mod checks;
 mod items;

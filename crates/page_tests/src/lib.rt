@@ -1,4 +1,6 @@
 //! Pages in use: generic code above any page, what the owner of a page below knows, and tests.
+#![tactic(auto)]
+
 mod generic;
 #[cfg(test)]
 mod limits;

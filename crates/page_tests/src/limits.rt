@@ -46,14 +46,14 @@ fn packed_limits(rt: HostRuntime) {
 }
 
 #[test]
-fn planar_limits(rt: HostRuntime) {
+fn bare_planar_limits(rt: HostRuntime) {
     let mut characters = [0; 4];
     let mut formattings = [0; 4];
     assert!(rt; keeps_lawful(&mut PlanarPage::new(2, 2, &mut characters, &mut formattings)));
 }
 
 #[test]
-fn offset_limits(rt: HostRuntime) {
+fn planar_limits(rt: HostRuntime) {
     let mut characters = [0; 9];
     let mut formattings = [0; 9];
     let below = PlanarPage::new(3, 3, &mut characters, &mut formattings);

@@ -1,4 +1,4 @@
-use super::probe::{has_size, is_made, takes_a_frame};
+use super::probe::{has_size, is_blank, is_made, takes_a_frame};
 use page::{PackedPage, PlanarPage};
 use std::test::Fail;
 
@@ -27,12 +27,37 @@ fn packed_sizes(rt: HostRuntime) {
     for (lines, columns, room, made) in MAKES {
         let mut words = [u32::MAX; 1600];
         let mut page = PackedPage::new(lines, columns, &mut words[..room.min(1600)]);
-        assert!(rt; is_made(&mut page, made.0, made.1));
+        assert!(rt; is_blank(&mut page, made.0, made.1));
     }
 }
 
 #[test]
 fn planar_sizes(rt: HostRuntime) {
+    for (lines, columns, room, made) in MAKES {
+        let mut characters = [65; 1600];
+        let mut formattings = [255; 1600];
+        let room = room.min(1600);
+        let mut page = PlanarPage::new(
+            lines,
+            columns,
+            &mut characters[..room],
+            &mut formattings[..room],
+        );
+        assert!(rt; is_blank(&mut page, made.0, made.1));
+    }
+}
+
+#[test]
+fn packed_corners(rt: HostRuntime) {
+    for (lines, columns, room, made) in MAKES {
+        let mut words = [u32::MAX; 1600];
+        let mut page = PackedPage::new(lines, columns, &mut words[..room.min(1600)]);
+        assert!(rt; is_made(&mut page, made.0, made.1));
+    }
+}
+
+#[test]
+fn planar_corners(rt: HostRuntime) {
     for (lines, columns, room, made) in MAKES {
         let mut characters = [65; 1600];
         let mut formattings = [255; 1600];

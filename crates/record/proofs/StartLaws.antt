@@ -8,9 +8,9 @@ use Rattle.refusal.specs.declared.faults.ItemFault.{ItemFault}
 use Rattle.refusal.specs.declared.faults.RecordFault.TheVariants.{Item, Own}
 use Rattle.refusal.specs.declared.faults.Site.{Site}
 use Rattle.refusal.proofs.Chains.{ok_same, then_ok, then_go, lift_ok, demand_ok, demand_go}
-use Rattle.bytes.specs.Bytes.{part}
-use Rattle.bytes.specs.Digits.{numeral, digits}
-use Rattle.bytes.proofs.PartLaws.{number_told, number_read}
+use Rattle.octets.specs.Bytes.{part}
+use Rattle.octets.specs.Digits.{numeral, digits}
+use Rattle.octets.proofs.PartLaws.{number_told, number_read}
 use Rattle.record.specs.Start.{in_record, lawful_id, lawful_version, lawful_length, whole, id_at, version_at, length_at, body_length}
 use Rattle.record.specs.declared.start.RecordKind.{RecordKind}
 

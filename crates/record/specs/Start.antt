@@ -7,8 +7,8 @@ use Rattle.refusal.specs.declared.causes.ItemCause.TheVariants.{NoDigit}
 use Rattle.refusal.specs.declared.causes.RecordCause.TheVariants.{TooFewBytes, WrongId, WrongVersion, WrongLength}
 use Rattle.refusal.specs.declared.faults.RecordFault.{RecordFault}
 use Rattle.refusal.specs.declared.faults.RecordFault.TheVariants.{Item, Own}
-use Rattle.bytes.specs.Bytes.{part, every, is_digit, is_printable}
-use Rattle.bytes.specs.Digits.{numeral}
+use Rattle.octets.specs.Bytes.{part, every, is_digit, is_printable}
+use Rattle.octets.specs.Digits.{numeral}
 use Rattle.record.specs.declared.start.RecordKind.{RecordKind}
 use Rattle.record.specs.declared.start.RecordKind.TheVariants.{Head, Layout, Carried}
 

@@ -1,4 +1,6 @@
 //! Records of a ticket message: the first twelve bytes of each.
+#![tactic(auto)]
+
 mod start;
 
 pub use start::{RecordKind, read_start};

@@ -1,7 +1,7 @@
 ghost use Rattle.std.specs.Prelude.{◌≡◌, ◌+◌, ◌≤◌, length, IfOk, OnOk};
 ghost use Rattle.record.specs.Start.{body_length, id_at, in_record, lawful_id, lawful_length, lawful_version, length_at, version_at, whole};
 
-use bytes::{all_within, read_number, same_bytes};
+use octets::{all_within, read_number, same_bytes};
 use refusal::{ItemCause, ItemFault, RecordCause, RecordFault, Site, demand};
 
 /// The three kinds of record, by their ids.

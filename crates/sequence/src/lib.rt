@@ -1,4 +1,6 @@
 //! An ordered list of entries, and byte strings laid end to end, each over memory that the caller lends.
+#![tactic(auto)]
+
 mod list;
 mod moving;
 mod store;

@@ -1,4 +1,6 @@
 //! Runs the list and the store on examples, and beside plain vectors.
+#![tactic(auto)]
+
 #[cfg(test)]
 mod dice;
 #[cfg(test)]

@@ -1,10 +1,10 @@
 -- Checking a text from left to right, in any code.
-use Rattle.std.proofs.Common.{◌≡◌, ℕ, ◌+◌, ◌-◌, ◌<◌, ◌≤◌, true, false, ◌⊎◌, List, [], ◌∷◌, ◌++◌, length, take, drop, Some, None, Ok, Err, Option, Result, sym, refl, ap, ◌∙◌, subst, inl, inr, ⊎_elim, arith, take-add}
+use Rattle.std.proofs.Common.{◌≡◌, ℕ, ◌+◌, ◌-◌, ◌<◌, ◌≤◌, true, false, List, [], ◌∷◌, ◌++◌, length, take, drop, Some, None, Ok, Err, Option, Result, sym, refl, ap, ◌∙◌, subst, inl, inr, ⊎_elim, arith, take-add}
 use Rattle.std.proofs.ByRecursion.{All-drop, All-push}
 use Rattle.std.proofs.lemmas.List.{append_assoc, drop_at, length-drop, length_push, length-take-le, take_all, take-append-drop}
 use Rattle.std.proofs.lemmas.Bool.{both_ways, cases_order}
 use Rattle.std.proofs.lemmas.Bool.Decides.{nat_tests}
-use Rattle.std.specs.List.{AllByRecursion as All}
+use Rattle.std.specs.List.{AllByRecursion}
 use Rattle.text_code.specs.declared.codes.Decoded.{Decoded}
 use Rattle.text_code.specs.declared.characters.Permitted.{Permitted}
 use Rattle.text_code.specs.Characters.{permits}
@@ -64,7 +64,7 @@ none_stands f p bytes place n k apart w b ok =
     w.fault
 
 -- so no text of permitted characters goes on past it
-next_stands : (f : ℕ → Option (List ℕ)) (p : Permitted) (bytes cs zs rest : List ℕ) (place : ℕ) → PrefixFree f → Faulty f p bytes place → 0 < length zs → drop place bytes ≡ zs ++ rest → Spelled f cs zs → All (λ c. permits p c ≡ true) cs → ⊥
+next_stands : (f : ℕ → Option (List ℕ)) (p : Permitted) (bytes cs zs rest : List ℕ) (place : ℕ) → PrefixFree f → Faulty f p bytes place → 0 < length zs → drop place bytes ≡ zs ++ rest → Spelled f cs zs → AllByRecursion (λ c. permits p c ≡ true) cs → ⊥
 next_stands f p bytes [] zs rest place apart w some at s ok = let e : [] ≡ zs = cc in omega (arith, ap length e)
 next_stands f p bytes (c ∷ cs) zs rest place apart w some at s ok =
     let q = spelled_parts f c cs zs s in
@@ -80,7 +80,7 @@ stuck f p bytes cs place end short apart w t past within =
     let left : drop (length front) cs ≡ r.others = ap (drop (length front)) r.parts ∙ drop_at front r.others (length front) refl in
     let long : length zs ≡ end - place = length-take-le (end - place) (drop place bytes) (omega (arith, length-drop place bytes)) in
     next_stands f p bytes r.others zs (drop (end - place) (drop place bytes)) place apart w (omega arith) (sym (take-append-drop (end - place) (drop place bytes))) r.spelled
-    (subst (All (λ c. permits p c ≡ true)) left (All-drop (λ c. permits p c ≡ true) (length front) cs t.permitted))
+    (subst (AllByRecursion (λ c. permits p c ≡ true)) left (All-drop (λ c. permits p c ≡ true) (length front) cs t.permitted))
 
 whole : (f : ℕ → Option (List ℕ)) (p : Permitted) (bytes cs : List ℕ) → Text f p cs bytes → Text f p cs (take (length bytes) bytes)
 whole f p bytes cs t = subst (Text f p cs) (sym (take_all (length bytes) bytes (omega arith))) t

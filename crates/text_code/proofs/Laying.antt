@@ -1,7 +1,7 @@
 -- Spellings laid one after another over a buffer.
-use Rattle.std.proofs.Common.{◌≡◌, ℕ, ◌+◌, ◌-◌, ◌<◌, ◌≤◌, true, List, [], ◌∷◌, ◌++◌, length, get_or, take, drop, Some, None, Ok, Err, Option, Result, sym, refl, ap, ◌∙◌, subst, arith}
+use Rattle.std.proofs.Common.{◌≡◌, ℕ, ◌+◌, ◌<◌, ◌≤◌, true, List, [], ◌∷◌, ◌++◌, length, get_or, take, drop, Some, None, Ok, Err, Option, Result, sym, refl, ap, ◌∙◌, subst, arith}
 use Rattle.std.proofs.lemmas.List.{drop_all, drop_more, length-append}
-use Rattle.std.specs.List.{AllByRecursion as All}
+use Rattle.std.specs.List.{AllByRecursion}
 use Rattle.lists.specs.Laying.{laid}
 use Rattle.lists.proofs.Laws.{laid_nothing, laid-laid, put_mid-laid}
 use Rattle.text_code.specs.declared.characters.Permitted.TheVariants.{Any}
@@ -67,7 +67,7 @@ lay_done f cs was now place i at h l =
       holds = sym (laid_nothing now at) ∙ ap (laid now at) (sym none) ∙ l.completes;
     }
 
-any_permitted : (cs : List ℕ) → All (λ c. permits Any c ≡ true) cs
+any_permitted : (cs : List ℕ) → AllByRecursion (λ c. permits Any c ≡ true) cs
 any_permitted [] = tt
 any_permitted (c ∷ cs) = (refl, any_permitted cs)
 

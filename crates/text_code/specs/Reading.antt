@@ -1,6 +1,6 @@
 -- What reading the front of some bytes tells, and what checking a whole text tells.
 use Rattle.std.specs.Prelude.{◌≡◌, ℕ, ◌<◌, true, false, cond, ◌⊎◌, List, length, take, drop, Some, None, Ok, Err, Option, Result}
-use Rattle.std.specs.List.{AllByRecursion as All}
+use Rattle.std.specs.List.{AllByRecursion}
 use Rattle.text_code.specs.declared.codes.Decoded.{Decoded}
 use Rattle.text_code.specs.declared.characters.Permitted.{Permitted}
 use Rattle.text_code.specs.Characters.{permits}
@@ -19,7 +19,7 @@ permitted_front p (Some d) = cond (permits p d.character) (Some d) None
 -- the bytes are the spelling of the characters cs, and each of them is permitted
 pub record Text (f : ℕ → Option (List ℕ)) (p : Permitted) (cs bytes : List ℕ) : Type 0 where
   pub spelled : Spelled f cs bytes
-  pub permitted : All (λ c. permits p c ≡ true) cs
+  pub permitted : AllByRecursion (λ c. permits p c ≡ true) cs
 
 -- what stands before a place is a text of permitted characters, and no permitted character is spelled at that place
 pub record Faulty (f : ℕ → Option (List ℕ)) (p : Permitted) (bytes : List ℕ) (place : ℕ) : Type 0 where

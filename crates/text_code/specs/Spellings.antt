@@ -1,13 +1,13 @@
 -- A text code is known by its spellings: f gives the bytes of each character number, or none.
 use Rattle.std.specs.Prelude.{◌≡◌, ℕ, ◌<◌, ◌≤◌, List, [], ◌∷◌, ◌++◌, length, take, Some, None, Option}
-use Rattle.std.specs.List.{AllByRecursion as All}
+use Rattle.std.specs.List.{AllByRecursion}
 
 -- a spelling has 1 to 4 bytes
 abbrev pub OneToFour : (ℕ → Option (List ℕ)) → Type 0
 OneToFour f = (n : ℕ) (bs : List ℕ) → f n ≡ Some bs → (1 ≤ length bs) × (length bs ≤ 4)
 
 abbrev pub OfBytes : (ℕ → Option (List ℕ)) → Type 0
-OfBytes f = (n : ℕ) (bs : List ℕ) → f n ≡ Some bs → All (λ b. b < 256) bs
+OfBytes f = (n : ℕ) (bs : List ℕ) → f n ≡ Some bs → AllByRecursion (λ b. b < 256) bs
 
 -- only the numbers up to 1,114,111 are characters
 abbrev pub OfCharacters : (ℕ → Option (List ℕ)) → Type 0

@@ -1,4 +1,6 @@
 //! Text codes: how characters are spelled in bytes, for any code, with UTF-8 and ISO 8859-1.
+#![tactic(auto)]
+
 mod characters;
 mod codes;
 mod latin1;

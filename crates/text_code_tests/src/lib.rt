@@ -1,4 +1,6 @@
 //! Text codes on examples: published texts, the boundaries of each form, malformed bytes, and every byte of ISO 8859-1.
+#![tactic(auto)]
+
 pub mod lent;
 
 #[cfg(test)]
@@ -161,7 +163,7 @@ mod tests {
             let Some(spelling) = Latin1.spell(byte as u32) else {
                 return Err(Fail::new("unspelled"));
             };
-            assert!(rt; spelling.as_bytes() == &[byte]);
+            assert!(rt; spelling.as_bytes() == [byte].as_slice());
         }
         assert_eq!(rt; read(&Latin1, &[]), None);
         assert!(rt; Latin1.spell(256).is_none() && Latin1.spell(0x10FFFF).is_none());

@@ -10,10 +10,10 @@ use Rattle.refusal.specs.declared.faults.RecordFault.TheVariants.{Item}
 use Rattle.refusal.specs.declared.faults.SheetFault.TheVariants.{Record, Own as SheetOwn}
 use Rattle.refusal.specs.declared.faults.Site.{Site}
 use Rattle.refusal.proofs.Chains.{ok_same, then_ok, then_go, lift_ok, demand_ok, demand_go}
-use Rattle.bytes.specs.Bytes.{part}
-use Rattle.bytes.specs.Digits.{numeral, digits}
-use Rattle.bytes.proofs.DigitLaws.{length_digits}
-use Rattle.bytes.proofs.PartLaws.{Stands, stands, stands_part, stands_join, stands_cut, number_stands, stands_number}
+use Rattle.octets.specs.Bytes.{part}
+use Rattle.octets.specs.Digits.{numeral, digits}
+use Rattle.octets.proofs.DigitLaws.{length_digits}
+use Rattle.octets.proofs.PartLaws.{Stands, stands, stands_part, stands_join, stands_cut, number_stands, stands_number}
 use Rattle.field.specs.Areas.{Area, lawful as lawful_area}
 use Rattle.field.specs.Fields.{Field}
 use Rattle.field.specs.Formattings.{lawful_formatting}

@@ -3,7 +3,7 @@ use Rattle.std.proofs.Common.{◌≡◌, ℕ, zero, suc, ◌+◌, ◌-◌, ◌�
 use Rattle.std.proofs.lemmas.List.{length-append}
 use Rattle.std.proofs.lemmas.Bool.{leb-true, le-leb}
 use Rattle.std.proofs.lemmas.Slice.Eq.{bytes_eq-Decides}
-use Rattle.std.specs.List.{AllByRecursion as All}
+use Rattle.std.specs.List.{AllByRecursion}
 use Rattle.std.specs.Str.{bytes_eq}
 use Rattle.refusal.specs.Chain.{lift, demand}
 use Rattle.refusal.specs.declared.causes.RecordCause.TheVariants.{WrongLength, WrongStandard}
@@ -11,10 +11,10 @@ use Rattle.refusal.specs.declared.causes.SheetCause.TheVariants.{TooManyEntries}
 use Rattle.refusal.specs.declared.faults.RecordFault.TheVariants.{Own}
 use Rattle.refusal.specs.declared.faults.SheetFault.TheVariants.{Record, Own as SheetOwn}
 use Rattle.refusal.proofs.Chains.{ok_same, then_ok, then_go, lift_ok, demand_ok, demand_go}
-use Rattle.bytes.specs.Bytes.{part}
-use Rattle.bytes.specs.Digits.{digits}
-use Rattle.bytes.proofs.DigitLaws.{length_digits}
-use Rattle.bytes.proofs.PartLaws.{Stands, stands, stands_part, stands_to, stands_join, stands_cut}
+use Rattle.octets.specs.Bytes.{part}
+use Rattle.octets.specs.Digits.{digits}
+use Rattle.octets.proofs.DigitLaws.{length_digits}
+use Rattle.octets.proofs.PartLaws.{Stands, stands, stands_part, stands_to, stands_join, stands_cut}
 use Rattle.field.specs.Fields.{Field}
 use Rattle.record.specs.Start.{in_record}
 use Rattle.text_code.specs.Spellings.{OneToFour, OfCharacters, PrefixFree}
@@ -25,7 +25,7 @@ use Rattle.ticket.proofs.FieldLaws.{in_body_read, number_at_told, number_at_read
 
 -- lawful fields stand from place p to place q of a body, and there is room for the bytes of their texts
 pub record FieldsStand (f : ℕ → Option (List ℕ)) (m : List ℕ) (end room p q : ℕ) (xs : List Field) : Type 0 where
-  pub lawful : All (LawfulField f) xs
+  pub lawful : AllByRecursion (LawfulField f) xs
   pub holds : Stands m p q (fields_bytes f xs)
   pub within : q ≤ end
   pub fits : text_total f xs ≤ room
@@ -49,7 +49,7 @@ few_fields f (x ∷ xs) = omega (arith, few_fields f xs, length_field f x, lengt
 
 -- the body of a layout stands from place 65 to its end, and its fields and their texts have room
 pub record LayoutStands (f : ℕ → Option (List ℕ)) (m : List ℕ) (room : Room) (end : ℕ) (xs : List Field) : Type 0 where
-  pub lawful : All (LawfulField f) xs
+  pub lawful : AllByRecursion (LawfulField f) xs
   pub holds : Stands m 65 end (layout_body f xs)
   pub fields : length xs ≤ room.fields
   pub texts : text_total f xs ≤ room.texts

@@ -2,15 +2,15 @@
 use Rattle.std.proofs.Common.{◌≡◌, ℕ, zero, suc, ◌+◌, ◌-◌, ◌≤◌, true, leb, List, [], ◌∷◌, length, Ok, sym, refl, ap, ◌∙◌, subst, ⊎_elim, arith}
 use Rattle.std.proofs.lemmas.List.{length-append}
 use Rattle.std.proofs.lemmas.Bool.{cases_Bool, cond-true, cond-false, leb-true, le-leb, lt-leb}
-use Rattle.std.specs.List.{AllByRecursion as All}
+use Rattle.std.specs.List.{AllByRecursion}
 use Rattle.refusal.specs.Chain.{lift, demand}
 use Rattle.refusal.specs.declared.causes.SheetCause.TheVariants.{MemoryExceeded, TooManyEntries}
 use Rattle.refusal.specs.declared.faults.SheetFault.TheVariants.{Record, Own as SheetOwn}
 use Rattle.refusal.proofs.Chains.{ok_same, then_ok, then_go, lift_ok, demand_ok, demand_go}
-use Rattle.bytes.specs.Bytes.{part}
-use Rattle.bytes.specs.Digits.{digits}
-use Rattle.bytes.proofs.DigitLaws.{length_digits}
-use Rattle.bytes.proofs.PartLaws.{Stands, length_part, stands, stands_part, stands_join, stands_cut}
+use Rattle.octets.specs.Bytes.{part}
+use Rattle.octets.specs.Digits.{digits}
+use Rattle.octets.proofs.DigitLaws.{length_digits}
+use Rattle.octets.proofs.PartLaws.{Stands, length_part, stands, stands_part, stands_join, stands_cut}
 use Rattle.record.specs.Start.{in_record, lawful_id, lawful_version, lawful_length, body_length}
 use Rattle.record.specs.declared.start.RecordKind.{RecordKind}
 use Rattle.record.specs.declared.start.RecordKind.TheVariants.{Carried}
@@ -104,7 +104,7 @@ carried_at_read m room k p r h =
 
 -- lawful carried records stand from a place to the end of the message, and there is room for their bodies
 pub record CarriedTo (m : List ℕ) (room p : ℕ) (rs : List CarriedRecord) : Type 0 where
-  pub lawful : All LawfulCarried rs
+  pub lawful : AllByRecursion LawfulCarried rs
   pub holds : Stands m p (length m) (carried_bytes rs)
   pub fits : body_total rs ≤ room
 

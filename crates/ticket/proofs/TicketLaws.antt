@@ -5,8 +5,8 @@ use Rattle.std.proofs.lemmas.Slice.Eq.{bytes_eq-Decides}
 use Rattle.refusal.specs.Chain.{lift}
 use Rattle.refusal.specs.declared.faults.SheetFault.TheVariants.{Record}
 use Rattle.refusal.proofs.Chains.{ok_same, then_ok, then_go, lift_ok}
-use Rattle.bytes.specs.Bytes.{part}
-use Rattle.bytes.proofs.PartLaws.{Stands, stands, stands_part, stands_join, stands_cut, stands_whole, whole_stands}
+use Rattle.octets.specs.Bytes.{part}
+use Rattle.octets.proofs.PartLaws.{Stands, stands, stands_part, stands_join, stands_cut, stands_whole, whole_stands}
 use Rattle.field.specs.Fields.{Field}
 use Rattle.head.specs.Heads.{encode as head_bytes}
 use Rattle.head.specs.Reading.{head_at}

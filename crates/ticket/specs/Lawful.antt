@@ -1,6 +1,6 @@
 -- When a ticket is lawful in a text code, and the memory that it needs.
 use Rattle.std.specs.Prelude.{◌≡◌, ℕ, ◌+◌, ◌≤◌, true, List, [], ◌∷◌, length, Option}
-use Rattle.std.specs.List.{AllByRecursion as All}
+use Rattle.std.specs.List.{AllByRecursion}
 use Rattle.field.specs.Areas.{lawful as lawful_area}
 use Rattle.field.specs.Fields.{Field}
 use Rattle.field.specs.Formattings.{lawful_formatting}
@@ -30,9 +30,9 @@ pub record LawfulCarried (r : CarriedRecord) : Type 0 where
 -- four digits count the layout's body
 pub record Lawful (f : ℕ → Option (List ℕ)) (t : Ticket) : Type 0 where
   pub head : lawful_head t.head ≡ true
-  pub fields : All (LawfulField f) t.fields
+  pub fields : AllByRecursion (LawfulField f) t.fields
   pub layout : length (layout_body f t.fields) ≤ 9999
-  pub carried : All LawfulCarried t.carried
+  pub carried : AllByRecursion LawfulCarried t.carried
   pub few : length t.carried ≤ 8
 
 -- numbers of fields, of their texts' bytes, of carried records and of their bodies' bytes

@@ -11,8 +11,8 @@ use Rattle.refusal.specs.declared.faults.RecordFault.{RecordFault}
 use Rattle.refusal.specs.declared.faults.RecordFault.TheVariants.{Item, Own}
 use Rattle.refusal.specs.declared.faults.SheetFault.{SheetFault}
 use Rattle.refusal.specs.declared.faults.SheetFault.TheVariants.{Record, Own as SheetOwn}
-use Rattle.bytes.specs.Bytes.{part}
-use Rattle.bytes.specs.Digits.{numeral}
+use Rattle.octets.specs.Bytes.{part}
+use Rattle.octets.specs.Digits.{numeral}
 use Rattle.field.specs.Areas.{Area}
 use Rattle.field.specs.Fields.{Field}
 use Rattle.field.specs.Formattings.{lawful_formatting}

@@ -1,6 +1,6 @@
 -- What a ticket is, and its bytes in a text code, where f gives the bytes of each character.
 use Rattle.std.specs.Prelude.{ℕ, List, [], ◌∷◌, ◌++◌, length, Some, None, codes, Option}
-use Rattle.bytes.specs.Digits.{digits}
+use Rattle.octets.specs.Digits.{digits}
 use Rattle.field.specs.Fields.{Field}
 use Rattle.head.specs.Heads.{encode as head_bytes}
 use Rattle.head.specs.declared.items.HeadItems.{HeadItems}

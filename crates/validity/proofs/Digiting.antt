@@ -1,6 +1,6 @@
 -- Numbers in digits, one digit after another.
 use Rattle.std.proofs.Common.{◌≡◌, ℕ, suc, ◌+◌, ◌*◌, ◌/◌, ◌%◌, ◌<◌, [], ◌∷◌, ◌++◌, ap, ◌∙◌, arith}
-use Rattle.bytes.specs.Digits.{digits}
+use Rattle.octets.specs.Digits.{digits}
 
 -- one digit more
 pub digits_push : (w v x : ℕ) → x < 10 → digits (suc w) (v * 10 + x) ≡ digits w v ++ ((48 + x) ∷ [])

@@ -3,10 +3,10 @@ use Rattle.std.proofs.Common.{◌≡◌, ℕ, suc, ◌+◌, ◌*◌, ◌/◌, �
 use Rattle.std.proofs.lemmas.List.{append_assoc}
 use Rattle.std.proofs.lemmas.Bool.{cond-true, cond-false, eq-eqb, ne_eqb, cases_eq}
 use Rattle.std.proofs.lemmas.Bool.Decides.{nat_tests}
-use Rattle.std.specs.List.{AllByRecursion as All}
+use Rattle.std.specs.List.{AllByRecursion}
 use Rattle.validity.specs.declared.groups.Class.{Class}
 use Rattle.validity.specs.declared.groups.Class.TheVariants.{Digit, Blank, Other}
-use Rattle.bytes.specs.Digits.{digits}
+use Rattle.octets.specs.Digits.{digits}
 use Rattle.validity.specs.Listing.{class_of, prepend, when_digit, when_blank, groups}
 use Rattle.validity.specs.ZoneLaws.{further}
 use Rattle.validity.proofs.Digiting.{digits_push}
@@ -40,18 +40,18 @@ pub record Wrote (n v : ℕ) (cs zs : List ℕ) : Type 0 where
   pub first : ℕ
   pub others : List ℕ
   pub is : zs ≡ first ∷ others
-  pub below : All (λ z. z < 1000) zs
+  pub below : AllByRecursion (λ z. z < 1000) zs
   pub text : digits n v ++ cs ≡ digits 3 first ++ further others
 
 abbrev Told : Bool → ℕ → ℕ → List ℕ → List ℕ → Type 0
-Told true n v cs zs = All (λ z. z < 1000) zs × (cs ≡ further zs)
+Told true n v cs zs = AllByRecursion (λ z. z < 1000) zs × (cs ≡ further zs)
 Told false n v cs zs = Wrote n v cs zs
 
 joined_digit : (n v x : ℕ) (c : ℕ) (cs : List ℕ) → c ≡ 48 + x → x < 10 → digits n v ++ (c ∷ cs) ≡ digits (suc n) (v * 10 + x) ++ cs
 joined_digit n v x c cs e h =
     ap (λ y. digits n v ++ (y ∷ cs)) e ∙ sym (append_assoc (digits n v) ((48 + x) ∷ []) cs) ∙ ap (λ ys. ys ++ cs) (sym (digits_push n v x h))
 
-whole_group : (n v x : ℕ) (c : ℕ) (cs ys zs : List ℕ) → n ≡ 2 → v < 10 ^ n → c ≡ 48 + x → x < 10 → zs ≡ (v * 10 + x) ∷ ys → All (λ z. z < 1000) ys × (cs ≡ further ys)
+whole_group : (n v x : ℕ) (c : ℕ) (cs ys zs : List ℕ) → n ≡ 2 → v < 10 ^ n → c ≡ 48 + x → x < 10 → zs ≡ (v * 10 + x) ∷ ys → AllByRecursion (λ z. z < 1000) ys × (cs ≡ further ys)
     → Wrote n v (c ∷ cs) zs
 whole_group n v x c cs ys zs e h k l z (a, t) =
     let p : 10 ^ n ≡ 100 = ap (λ i. 10 ^ i) e in
@@ -60,7 +60,7 @@ whole_group n v x c cs ys zs e h k l z (a, t) =
       first = v * 10 + x;
       others = ys;
       is = z;
-      below = subst (All (λ y. y < 1000)) (sym z) (below, a);
+      below = subst (AllByRecursion (λ y. y < 1000)) (sym z) (below, a);
       text = joined_digit n v x c cs k l ∙ ap (λ i. digits (suc i) (v * 10 + x) ++ cs) e ∙ ap (λ s. digits 3 (v * 10 + x) ++ s) t;
     }
 
@@ -75,7 +75,7 @@ part_group n v x c cs zs k l w =
       text = joined_digit n v x c cs k l ∙ ap (λ i. digits i (v * 10 + x) ++ cs) e ∙ w.text;
     }
 
-behind_blank : (c : ℕ) (cs zs : List ℕ) → c ≡ 32 → Wrote 0 0 cs zs → All (λ z. z < 1000) zs × ((c ∷ cs) ≡ further zs)
+behind_blank : (c : ℕ) (cs zs : List ℕ) → c ≡ 32 → Wrote 0 0 cs zs → AllByRecursion (λ z. z < 1000) zs × ((c ∷ cs) ≡ further zs)
 behind_blank c cs zs e w = (w.below, ap (λ y. y ∷ cs) e ∙ ap (λ s. 32 ∷ s) w.text ∙ ap further (sym w.is))
 
 -- what the reader lists, the text is the listing of
@@ -118,10 +118,10 @@ three z rest h =
     ∙ ap (λ y. when_digit y (λ x. prepend (((0 * 10 + a) * 10 + b) * 10 + x) (groups true 0 0 rest))) (digit_class d (omega arith))
     ∙ ap (λ y. prepend y (groups true 0 0 rest)) e
 
-behind : (zs : List ℕ) → All (λ z. z < 1000) zs → groups true 0 0 (further zs) ≡ Some zs
+behind : (zs : List ℕ) → AllByRecursion (λ z. z < 1000) zs → groups true 0 0 (further zs) ≡ Some zs
 unfolding groups
 behind [] h = refl
 behind (z ∷ zs) (l, h) = three z (further zs) l ∙ ap (prepend z) (behind zs h)
 
-pub groups_listing : (z : ℕ) (zs : List ℕ) → z < 1000 → All (λ y. y < 1000) zs → groups false 0 0 (digits 3 z ++ further zs) ≡ Some (z ∷ zs)
+pub groups_listing : (z : ℕ) (zs : List ℕ) → z < 1000 → AllByRecursion (λ y. y < 1000) zs → groups false 0 0 (digits 3 z ++ further zs) ≡ Some (z ∷ zs)
 groups_listing z zs l h = three z (further zs) l ∙ ap (prepend z) (behind zs h)

@@ -5,7 +5,7 @@ use Rattle.std.proofs.lemmas.List.{take-append-drop, take_all, drop-drop, length
 use Rattle.std.proofs.lemmas.Slice.Eq.{bytes_eq-Decides}
 use Rattle.std.proofs.lemmas.Bool.{and_from, and_parts, cond_both, cond-true, eq-eqb, eqb-true, le-leb, leb-true}
 use Rattle.std.proofs.lemmas.Bool.Decides.{nat_tests}
-use Rattle.std.specs.List.{AllByRecursion as All}
+use Rattle.std.specs.List.{AllByRecursion}
 use Rattle.std.specs.Str.{bytes_eq}
 use Rattle.calendar.specs.declared.Date.{Date}
 use Rattle.calendar.specs.declared.Time.{Time}
@@ -14,7 +14,7 @@ use Rattle.calendar.proofs.Bounds.{date_bounds, time_bounds}
 use Rattle.text_code.specs.Spellings.{OneToFour, PrefixFree, OwnBytes, Spelled, spell_all}
 use Rattle.text_code.proofs.Unique.{unique_decoding}
 use Rattle.validity.specs.declared.answer.Period.{Period}
-use Rattle.bytes.specs.Digits.{digits}
+use Rattle.octets.specs.Digits.{digits}
 use Rattle.validity.specs.Periods.{InEveryCode, InOrder, PeriodOf, Tells, between, date_at, date_text, moment_at, moment_text, period_of, period_text, seconds_if_real, time_at, time_text}
 use Rattle.validity.proofs.ZoneAnswers.{own_spelled}
 
@@ -35,7 +35,7 @@ four_back n h =
     ap₂ (λ x y. x * 100 + y) high
     (ap₂ (λ x y. x * 10 + y) (low_bits (n / 10 % 10) (omega arith)) (low_bits (n % 10) (omega arith))) ∙ omega arith
 
-listed_bound : (xs : List ℕ) (k : ℕ) → All (λ x. x ≤ 31) xs → get_or xs k 0 ≤ 31
+listed_bound : (xs : List ℕ) (k : ℕ) → AllByRecursion (λ x. x ≤ 31) xs → get_or xs k 0 ≤ 31
 listed_bound [] k h = omega arith
 listed_bound (x ∷ xs) zero (l, h) = l
 listed_bound (x ∷ xs) (suc k) (l, h) = listed_bound xs k h
@@ -135,12 +135,12 @@ joined bytes d t e u p =
 
 -- in every code
 
-digits_own : (w n : ℕ) → All (λ c. (32 ≤ c) × (c ≤ 126)) (digits w n)
+digits_own : (w n : ℕ) → AllByRecursion (λ c. (32 ≤ c) × (c ≤ 126)) (digits w n)
 digits_own zero n = tt
 digits_own (suc w) n = All-push (λ c. (32 ≤ c) × (c ≤ 126)) (digits w (n / 10)) (48 + n % 10) (digits_own w (n / 10)) (omega arith, omega arith)
 
 abbrev Own : List ℕ → Type 0
-Own cs = All (λ c. (32 ≤ c) × (c ≤ 126)) cs
+Own cs = AllByRecursion (λ c. (32 ≤ c) × (c ≤ 126)) cs
 
 behind_number : (w n c : ℕ) (cs : List ℕ) → 32 ≤ c → c ≤ 126 → Own cs → Own (digits w n ++ (c ∷ cs))
 behind_number w n c cs l h o = All-append (λ x. (32 ≤ x) × (x ≤ 126)) (digits w n) (c ∷ cs) (digits_own w n) ((l, h), o)

@@ -3,4 +3,3 @@ pub mod Listing
 pub mod ZoneLaws
 pub mod Periods
 pub mod Layers
-pub mod FieldAnswers

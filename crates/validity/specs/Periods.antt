@@ -6,7 +6,7 @@ use Rattle.calendar.specs.declared.Time.{Time}
 use Rattle.calendar.specs.Gregorian.{real_date, real_time, seconds_of}
 use Rattle.text_code.specs.Spellings.{OneToFour, PrefixFree, OwnBytes, Spelled}
 use Rattle.validity.specs.declared.answer.Period.{Period}
-use Rattle.bytes.specs.Digits.{digits}
+use Rattle.octets.specs.Digits.{digits}
 
 -- dd.MM.yyyy
 abbrev pub date_text : Date → List ℕ

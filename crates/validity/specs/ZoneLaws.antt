@@ -4,7 +4,7 @@ use Rattle.std.specs.List.{AllByRecursion}
 use Rattle.text_code.specs.Spellings.{Spelled}
 use Rattle.validity.specs.declared.answer.Zones.{Zones}
 use Rattle.validity.specs.declared.answer.ZoneKind.TheVariants.{Plain, All, Listed}
-use Rattle.bytes.specs.Digits.{digits}
+use Rattle.octets.specs.Digits.{digits}
 use Rattle.validity.specs.Listing.{netz, zones_of}
 use Rattle.validity.specs.Zoning.{flag, count_of, ones_of, among, plain_zones, all_zones, listed_zones}
 

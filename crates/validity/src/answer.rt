@@ -24,3 +24,12 @@ pub struct Period {
     pub begin: u64,
     pub end: u64,
 }
+
+/// The cells of a field: its first line and column, and its size.
+#[derive(Clone, Copy)]
+pub struct Rectangle {
+    pub line: u32,
+    pub column: u32,
+    pub height: u32,
+    pub width: u32,
+}

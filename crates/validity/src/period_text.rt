@@ -2,8 +2,8 @@ ghost use Rattle.std.specs.Prelude.{◌≡◌, ℕ, ◌+◌, ◌≤◌, List, le
 ghost use Rattle.validity.specs.Periods.{InEveryCode, PeriodOf, between, date_at, moment_at, moment_text, period_of, seconds_if_real, seconds_if_written, time_at, two_at, two_parts};
 
 use super::answer::Period;
-use bytes::same_bytes;
 use calendar::{Date, Moment, Time};
+use octets::same_bytes;
 
 /// What two bytes write if they are digits.
 fn two_at(text: &[u8], at: usize) -> u8

@@ -6,7 +6,7 @@ ghost use Rattle.validity.specs.ZoneLaws.{KindLaw, SetLaw, ZonesIn};
 use super::answer::Zones;
 use super::groups::listed_words;
 use super::marks::{all_zones, zones_of_words};
-use bytes::same_bytes;
+use octets::same_bytes;
 use text_code::ReadingCode;
 
 /// Whether the bytes are `Netz`, which has the same bytes in every code.

@@ -1,6 +1,6 @@
 -- The laws of the flow, from what holds of its words one after another.
 use Rattle.std.proofs.Common.{◌≡◌, ℕ, ◌+◌, ◌-◌, ◌<◌, ◌≤◌, Bool, true, false, cond, ◌&&◌, ltb, leb, ◌⊎◌, List, [], ◌∷◌, ◌++◌, map, length, refl, ap, ◌∙◌, inl, inr, ⊎_elim, arith}
-use Rattle.std.specs.List.{AllByRecursion as All}
+use Rattle.std.specs.List.{AllByRecursion}
 use Rattle.std.proofs.ByRecursion.{All-append, All-weaker}
 use Rattle.std.proofs.lemmas.Bool.{and_from, and_parts, cond_both, le-leb, leb-true, lt-ltb, ltb-true}
 use Rattle.wrap.specs.declared.classes.CharacterClass.{CharacterClass}
@@ -53,23 +53,23 @@ chain w i r k [] = tt
 chain w i r k (c ∷ cs) = chain_step w i r k c cs (class_of c) (λ i r k. chain w i r k cs)
 
 -- a word inside a rectangle
-spread_inside : (h w r k : ℕ) (cs : List ℕ) → r < h → k + length cs ≤ w → All (Inside h w) (spread r k cs)
+spread_inside : (h w r k : ℕ) (cs : List ℕ) → r < h → k + length cs ≤ w → AllByRecursion (Inside h w) (spread r k cs)
 spread_inside h w r k [] p q = tt
 spread_inside h w r k (c ∷ cs) p q = ((p, omega arith), spread_inside h w r (k + 1) cs p (omega arith))
 
-inside_spread : (h w r k c : ℕ) (cs : List ℕ) → All (Inside h w) (spread r k (c ∷ cs)) → (r < h) × (k + 1 + length cs ≤ w)
+inside_spread : (h w r k c : ℕ) (cs : List ℕ) → AllByRecursion (Inside h w) (spread r k (c ∷ cs)) → (r < h) × (k + 1 + length cs ≤ w)
 inside_spread h w r k c [] p = (p.0.0, omega (arith, p.0.1))
 inside_spread h w r k c (d ∷ cs) p = let q = inside_spread h w r (k + 1) d cs p.1 in (q.0, omega (arith, q.1))
 
-inside_word : (h w r k : ℕ) (cs : List ℕ) → 1 ≤ length cs → All (Inside h w) (spread r k cs) → (r < h) × (k + length cs ≤ w)
+inside_word : (h w r k : ℕ) (cs : List ℕ) → 1 ≤ length cs → AllByRecursion (Inside h w) (spread r k cs) → (r < h) × (k + length cs ≤ w)
 inside_word h w r k [] l p = absurd (omega arith)
 inside_word h w r k (c ∷ cs) l p = let q = inside_spread h w r k c cs p in (q.0, omega (arith, q.1))
 
-all_parts : {X : Type 0} (P : X → Type 0) (xs ys : List X) → All P (xs ++ ys) → All P xs × All P ys
+all_parts : {X : Type 0} (P : X → Type 0) (xs ys : List X) → AllByRecursion P (xs ++ ys) → AllByRecursion P xs × AllByRecursion P ys
 all_parts P [] ys a = (tt, a)
 all_parts P (x ∷ xs) ys a = let p = all_parts P xs ys a.1 in ((a.0, p.0), p.1)
 
-fit_inside : (h w r k : ℕ) (xs : List WordAt) → Chain w r k xs → all_fit h w xs ≡ true → All (Inside h w) (printed xs)
+fit_inside : (h w r k : ℕ) (xs : List WordAt) → Chain w r k xs → all_fit h w xs ≡ true → AllByRecursion (Inside h w) (printed xs)
 fit_inside h w r k [] c f = tt
 fit_inside h w r k (x ∷ xs) c f =
     let p = and_parts (leb (length x.characters) w && ltb x.row h) (all_fit h w xs) f in
@@ -79,7 +79,7 @@ fit_inside h w r k (x ∷ xs) c f =
     (spread_inside h w x.row x.column x.characters (ltb-true x.row h q.1) (⊎_elim (λ e. e) (λ e. omega arith) c.1.1))
     (fit_inside h w x.row (behind x) xs c.2 p.1)
 
-inside_fit : (h w r k : ℕ) (xs : List WordAt) → Chain w r k xs → All (Inside h w) (printed xs) → all_fit h w xs ≡ true
+inside_fit : (h w r k : ℕ) (xs : List WordAt) → Chain w r k xs → AllByRecursion (Inside h w) (printed xs) → all_fit h w xs ≡ true
 inside_fit h w r k [] c a = refl
 inside_fit h w r k (x ∷ xs) c a =
     let p = all_parts (Inside h w) (spread x.row x.column x.characters) (printed xs) a in
@@ -95,17 +95,17 @@ fits_inside h w cs = let c = chain w false 0 0 cs in (fit_inside h w 0 0 (words 
 abbrev FromAt : ℕ → ℕ → Glyph → Type 0
 FromAt r k g = From r k g.row g.column
 
-spread_from : (a b r k : ℕ) (cs : List ℕ) → From a b r k → All (FromAt a b) (spread r k cs)
+spread_from : (a b r k : ℕ) (cs : List ℕ) → From a b r k → AllByRecursion (FromAt a b) (spread r k cs)
 spread_from a b r k [] f = tt
 spread_from a b r k (c ∷ cs) f = (f, spread_from a b r (k + 1) cs (f.0, λ s. omega (arith, f.1 s)))
 
-printed_from : (w r k : ℕ) (xs : List WordAt) → Chain w r k xs → All (FromAt r k) (printed xs)
+printed_from : (w r k : ℕ) (xs : List WordAt) → Chain w r k xs → AllByRecursion (FromAt r k) (printed xs)
 printed_from w r k [] c = tt
 printed_from w r k (x ∷ xs) c =
     All-append (FromAt r k) (spread x.row x.column x.characters) (printed xs) (spread_from r k x.row x.column x.characters c.0)
     (All-weaker (FromAt x.row (behind x)) (FromAt r k) (λ g f. from_trans r k x.row (behind x) g.row g.column (c.0.0, λ s. omega (arith, c.0.1 s)) f) (printed xs) (printed_from w x.row (behind x) xs c.2))
 
-spread_order : (r k : ℕ) (cs : List ℕ) (gs : List Glyph) → All (FromAt r (k + length cs)) gs → Pairwise Before gs → Pairwise Before (spread r k cs ++ gs)
+spread_order : (r k : ℕ) (cs : List ℕ) (gs : List Glyph) → AllByRecursion (FromAt r (k + length cs)) gs → Pairwise Before gs → Pairwise Before (spread r k cs ++ gs)
 spread_order r k [] gs a p = p
 spread_order r k (c ∷ cs) gs a p =
     let g : Glyph = record { row = r; column = k; character = c } in (

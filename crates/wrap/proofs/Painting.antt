@@ -1,6 +1,6 @@
 -- Printing into a grid, character by character and word by word, and the laws of pictures.
 use Rattle.std.proofs.Common.{◌≡◌, ℕ, ◌+◌, ◌-◌, ◌<◌, ◌≤◌, Bool, true, false, cond, ◌&&◌, eqb, List, [], ◌∷◌, ◌++◌, length, Some, None, sym, refl, ap, ◌∙◌, subst, arith}
-use Rattle.std.specs.List.{AllByRecursion as All}
+use Rattle.std.specs.List.{AllByRecursion}
 use Rattle.std.proofs.lemmas.Bool.{cond-true, cond-false}
 use Rattle.page.specs.declared.cell.Cell.{Cell}
 use Rattle.page.specs.Cells.{blank}
@@ -136,7 +136,7 @@ all_append (x ∷ xs) ys l c cell = all_append xs ys l c (printed_over x l c cel
 pub added_last : AddedLast
 added_last xs x l c = all_append xs (x ∷ []) l c blank
 
-all_kept : (xs : List Field) (l c : ℕ) (cell : Cell) → All (λ x. covers x.area l c ≡ false) xs → all_over xs l c cell ≡ cell
+all_kept : (xs : List Field) (l c : ℕ) (cell : Cell) → AllByRecursion (λ x. covers x.area l c ≡ false) xs → all_over xs l c cell ≡ cell
 all_kept [] l c cell a = refl
 all_kept (x ∷ xs) l c cell a = ap (all_over xs l c) (cond-false (covers x.area l c) (field_shows x l c) cell a.0) ∙ all_kept xs l c cell a.1
 

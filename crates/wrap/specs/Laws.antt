@@ -1,6 +1,6 @@
 -- What the flow of every text at every width keeps.
 use Rattle.std.specs.Prelude.{◌≡◌, ℕ, ◌<◌, ◌≤◌, List, [], ◌∷◌, map, Decides, ◌≢◌}
-use Rattle.std.specs.List.{AllByRecursion as All}
+use Rattle.std.specs.List.{AllByRecursion}
 use Rattle.wrap.specs.Classes.{ink_of}
 use Rattle.wrap.specs.Flow.{Glyph, flow_of, fits}
 
@@ -18,11 +18,11 @@ Apart g h = g.row ≡ h.row → g.column ≢ h.column
 -- each element of a list, with each that comes later
 abbrev pub Pairwise : {X : Type 0} → (X → X → Type 0) → List X → Type 0
 Pairwise R [] = Unit {0}
-Pairwise R (x ∷ xs) = All (R x) xs × Pairwise R xs
+Pairwise R (x ∷ xs) = AllByRecursion (R x) xs × Pairwise R xs
 
 -- a text fits exactly when every printed character lies inside the rectangle
 abbrev pub FitsInside : Type 0
-FitsInside = (height width : ℕ) (cs : List ℕ) → Decides (fits height width cs) (All (Inside height width) (flow_of width cs))
+FitsInside = (height width : ℕ) (cs : List ℕ) → Decides (fits height width cs) (AllByRecursion (Inside height width) (flow_of width cs))
 
 -- the characters are printed in reading order
 abbrev pub ReadingOrder : Type 0

@@ -1,6 +1,6 @@
 -- What fields show that are printed one over another.
 use Rattle.std.specs.Prelude.{◌≡◌, ℕ, ◌+◌, ◌-◌, ◌*◌, ◌<◌, true, false, cond, ◌&&◌, List, [], ◌∷◌, ◌++◌, Some, None, Option, nat_lt, slice_index_or}
-use Rattle.std.specs.List.{AllByRecursion as All}
+use Rattle.std.specs.List.{AllByRecursion}
 use Rattle.page.specs.declared.cell.Cell.{Cell}
 use Rattle.page.specs.Cells.{blank}
 use Rattle.wrap.specs.declared.grid.Grid.{Grid}
@@ -54,7 +54,7 @@ AddedLast = (xs : List Field) (x : Field) (l c : ℕ) → picture (xs ++ x ∷ [
 
 -- the last field that covers a cell is the one that it shows
 abbrev pub LastShows : Type 0
-LastShows = (xs ys : List Field) (x : Field) (l c : ℕ) → covers x.area l c ≡ true → All (λ y. covers y.area l c ≡ false) ys → picture (xs ++ x ∷ ys) l c ≡ field_shows x l c
+LastShows = (xs ys : List Field) (x : Field) (l c : ℕ) → covers x.area l c ≡ true → AllByRecursion (λ y. covers y.area l c ≡ false) ys → picture (xs ++ x ∷ ys) l c ≡ field_shows x l c
 
 abbrev pub NoneShowsBlank : Type 0
-NoneShowsBlank = (xs : List Field) (l c : ℕ) → All (λ x. covers x.area l c ≡ false) xs → picture xs l c ≡ blank
+NoneShowsBlank = (xs : List Field) (l c : ℕ) → AllByRecursion (λ x. covers x.area l c ≡ false) xs → picture xs l c ≡ blank

@@ -8,7 +8,7 @@ use super::cursor::{Cursor, Word};
 use super::grid::Grid;
 use super::sources::Characters;
 use super::walking::next_word;
-use field::{Formatting, Rectangle};
+use field::Rectangle;
 use page::Cell;
 
 /// As many blanks as the area has cells.
@@ -125,17 +125,17 @@ impl Grid {
 
     /// Prints a text into a rectangle: each of its cells shows the character that wrapping puts there, else a blank, in
     /// the formatting. All other cells stay.
-    pub fn print<S: Characters>(&mut self, rectangle: Rectangle, formatting: Formatting, source: &S)
-        ensures printed { (cs : List ℕ) → S.Characters.stands source.now 0 cs → Changed self.old self.new (printed_over (record { area = area_of rectangle; formatting = formatting.value; characters = cs })) }
+    pub fn print<S: Characters>(&mut self, rectangle: Rectangle, formatting: u8, source: &S)
+        ensures printed { (cs : List ℕ) → S.Characters.stands source.now 0 cs → Changed self.old self.new (printed_over (record { area = area_of rectangle; formatting = formatting; characters = cs })) }
         ensures kept { Kept (area_of rectangle) self.old self.new }
         ensures added { AddedLast }
         ensures last { LastShows }
         ensures none { NoneShowsBlank }
     {
-        self.clear(rectangle, formatting.value);
+        self.clear(rectangle, formatting);
         let mut cursor = Cursor::start();
         while let Some(word) = next_word(source, cursor, rectangle.width) {
-            self.print_word(rectangle, formatting.value, source, word);
+            self.print_word(rectangle, formatting, source, word);
             cursor = word.behind();
         }
     }

@@ -1,7 +1,7 @@
-use field::{Formatting, Rectangle};
+use field::Formatting;
 use std::test::Fail;
 use text_code::{Latin1, Utf8};
-use wrap::{Encoded, Grid, Numbers};
+use wrap::{Encoded, Grid, Numbers, Rectangle};
 
 /// Whether cells from a line and a column on, in rows of a width, show the characters in a formatting. A dot is a blank.
 fn shows(
@@ -26,13 +26,6 @@ fn shows(
         }
     }
     true
-}
-
-fn formatting(value: u8) -> Result<Formatting, Fail> {
-    match Formatting::new(value) {
-        Some(formatting) => Ok(formatting),
-        None => Err(Fail::new("no formatting")),
-    }
 }
 
 /// How many cells have a formatting.
@@ -69,7 +62,7 @@ fn prints_in_the_rectangle_alone(rt: HostRuntime) -> Result<(), Fail> {
         };
         grid.print(
             rectangle,
-            formatting(2)?,
+            2,
             &Encoded {
                 code: &Utf8,
                 bytes: text,
@@ -94,14 +87,14 @@ fn a_later_field_lies_over_an_earlier(rt: HostRuntime) -> Result<(), Fail> {
     };
     grid.print(
         first,
-        formatting(1)?,
+        1,
         &Encoded {
             code: &Latin1,
             bytes: b"ABC",
         },
     );
     assert!(rt; shows(&grid, 0, 0, 3, 1, b"ABC"));
-    grid.print(second, formatting(4)?, &Numbers { characters: &[88] });
+    grid.print(second, 4, &Numbers { characters: &[88] });
     assert!(rt; shows(&grid, 0, 0, 1, 1, b"A"));
     assert!(rt; shows(&grid, 0, 1, 2, 4, b"X."));
     assert_eq!(rt; formatted(&grid, 0), 1077);

@@ -6,6 +6,6 @@ use Rattle.calendar.proofs.days_before_year.Goals as goal
 pub returns : goal.returns
 returns c =
     record {
-      counts = sym (closed c.saturating-sub-years.result) ∙ ap (sum_to year_length) c.saturating-sub-years.ensures;
+      counts = sym (closed c.saturating_sub-years.result) ∙ ap (sum_to year_length) c.saturating_sub-years.ensures;
       bound = omega arith;
     }

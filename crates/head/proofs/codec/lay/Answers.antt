@@ -4,4 +4,4 @@ use Rattle.head.proofs.codec.lay.Goals as goal
 
 pub returns : goal.returns
 returns c =
-    put_mid-laid c.args.place (c.args.place + length c.args.item.now - c.args.place) c.args.buffer.now c.copy-from-slice.new.self c.args.item.now c.copy-from-slice.ensures.after (omega arith)
+    put_mid-laid c.args.place (c.args.place + length c.args.item.now - c.args.place) c.args.buffer.now c.copy_from_slice.new.self c.args.item.now c.copy_from_slice.ensures.after (omega arith)

@@ -6,15 +6,15 @@ use Rattle.message.specs.Totals.{behind}
 use Rattle.std.proofs.lemmas.Result.{err_from_is_err_and}
 use Rattle.ticket.specs.Reading.{fields_at}
 
-pub returns-in-err-field : goal.returns-in-err-field
-returns-in-err-field g c =
+pub returns-in_err-field : goal.returns-in_err-field
+returns-in_err-field g c =
     let f = g.C.ReadingCode.spells c.args.code.now in
     let left = c.args.count - c.loop-number.number in
-    let p = err_from_is_err_and c.from-residual.result c.from-residual.ensures.1 in
+    let p = err_from_is_err_and c.from_residual.result c.from_residual.ensures.1 in
     record {
       value =
           p.1 ∙ ap Err p.2
-          ∙ fields_stop f c.args.message.now c.args.end (behind c.loop-number.place c.loop-number.bytes) (c.args.room - c.loop-number.bytes) left (left - 1) c.loop-number.number c.loop-number.place c.in-err-field.field-0.0 (omega arith) c.in-err-field.ensures.value
+          ∙ fields_stop f c.args.message.now c.args.end (behind c.loop-number.place c.loop-number.bytes) (c.args.room - c.loop-number.bytes) left (left - 1) c.loop-number.number c.loop-number.place c.in_err-field.field-0.0 (omega arith) c.in_err-field.ensures.value
           ∙ c.loop-number.invariant.0;
       room = subst (λ s. IfOk s (λ x. x.bytes ≤ c.args.room)) (sym p.1) tt;
     }
@@ -22,10 +22,10 @@ returns-in-err-field g c =
 pub loop-number-preserved : goal.loop-number-preserved
 loop-number-preserved g c =
     let f = g.C.ReadingCode.spells c.args.code.now in
-    let x = c.in-ok-field.field in
+    let x = c.in_ok-field.field in
     let b = c.loop-number.bytes in
     let j = c.args.count - (c.loop-number.number + 1) in
-    let said = c.in-ok-field.ensures in
+    let said = c.in_ok-field.ensures in
     let room : c.args.room - (b + x.text_length) ≡ c.args.room - b - x.text_length = omega arith in
     let again =
     ap (λ r. seen (behind (x.text_place + x.text_length) (b + x.text_length)) (fields_at f c.args.message.now c.args.end r j (c.loop-number.number + 1) (x.text_place + x.text_length))) room

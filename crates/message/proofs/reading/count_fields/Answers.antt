@@ -10,5 +10,5 @@ pub returns : goal.returns
 returns c =
     let m = c.args.message.now in
     let counted = bounded_at m c.args.end (in_record 1 69) c.args.limits.fields in
-    c.bounded-at.ensures ∙ ap (λ s. bounded_at m c.args.end s c.args.limits.fields) c.site-in-layout.ensures
-    ∙ sym (then_go (lift Record (standard_at m c.args.end)) (λ _. counted) tt counted (ap (lift Record) (sym c.in-ok-check-standard.ensures)) refl)
+    c.bounded_at.ensures ∙ ap (λ s. bounded_at m c.args.end s c.args.limits.fields) c.site_in_layout.ensures
+    ∙ sym (then_go (lift Record (standard_at m c.args.end)) (λ _. counted) tt counted (ap (lift Record) (sym c.in_ok-check_standard.ensures)) refl)

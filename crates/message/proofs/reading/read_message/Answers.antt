@@ -14,8 +14,8 @@ returns g c =
     let room = room_of c.args.limits in
     let m = c.args.message.now in
     record {
-      value = c.contents-of.ensures.value ∙ ap (λ r. summary_in f r m) c.capped.ensures ∙ summary_told f short bounded apart room m;
-      inside = c.contents-of.ensures.inside;
+      value = c.contents_of.ensures.value ∙ ap (λ r. summary_in f r m) c.capped.ensures ∙ summary_told f short bounded apart room m;
+      inside = c.contents_of.ensures.inside;
       exactly = accepts_exactly f short bounded apart room m (omega arith);
       alone = bytes_determine f short bounded apart;
     }

@@ -8,7 +8,7 @@ use Rattle.message_writer.proofs.carried.lay_carried.Goals as goal
 pub returns : goal.returns
 returns c =
     let a = c.args in
-    let laying = c.lay-record-items in
+    let laying = c.lay_record_items in
     let was = a.buffer.now in
     let id = a.id.now in
     let version = a.version.now in

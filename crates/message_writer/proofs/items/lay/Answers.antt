@@ -6,5 +6,5 @@ pub returns : goal.returns
 returns c =
     record {
       value = refl;
-      after = put_mid-laid c.args.place (c.args.place + length c.args.item.now - c.args.place) c.args.buffer.now c.copy-from-slice.new.self c.args.item.now c.copy-from-slice.ensures.after (omega arith);
+      after = put_mid-laid c.args.place (c.args.place + length c.args.item.now - c.args.place) c.args.buffer.now c.copy_from_slice.new.self c.args.item.now c.copy_from_slice.ensures.after (omega arith);
     }

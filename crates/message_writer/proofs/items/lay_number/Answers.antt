@@ -1,8 +1,8 @@
 use Rattle.std.proofs.Common.{◌≡◌, ◌+◌, ◌-◌, length, take, drop, refl, ap, ◌∙◌, arith}
 use Rattle.std.proofs.lemmas.List.{length-take-le, length-drop}
 use Rattle.lists.proofs.Laws.{put_mid-laid}
-use Rattle.bytes.specs.Digits.{digits}
-use Rattle.bytes.proofs.DigitLaws.{length_digits}
+use Rattle.octets.specs.Digits.{digits}
+use Rattle.octets.proofs.DigitLaws.{length_digits}
 use Rattle.message_writer.proofs.items.lay_number.Goals as goal
 
 pub returns : goal.returns
@@ -12,5 +12,5 @@ returns c =
     let n : length (take (p + w - p) (drop p c.args.buffer.now)) ≡ w = length-take-le (p + w - p) (drop p c.args.buffer.now) (simp length-drop (omega arith)) ∙ omega arith in
     record {
       value = refl;
-      after = put_mid-laid p (p + w - p) c.args.buffer.now c.write-number.new.item (digits w c.args.number) (c.write-number.ensures ∙ ap (λ k. digits k c.args.number) n) (length_digits w c.args.number ∙ omega arith);
+      after = put_mid-laid p (p + w - p) c.args.buffer.now c.write_number.new.item (digits w c.args.number) (c.write_number.ensures ∙ ap (λ k. digits k c.args.number) n) (length_digits w c.args.number ∙ omega arith);
     }

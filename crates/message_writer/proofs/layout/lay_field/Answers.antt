@@ -8,7 +8,7 @@ use Rattle.message_writer.proofs.layout.lay_field.Goals as goal
 pub returns : goal.returns
 returns c =
     let a = c.args in
-    let laying = c.lay-field-items in
+    let laying = c.lay_field_items in
     let text = a.text.now in
     let area = area_of a.rectangle in
     let formatting = a.formatting.value in

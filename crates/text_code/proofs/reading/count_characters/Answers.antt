@@ -3,10 +3,10 @@ use Rattle.text_code.proofs.Checking.{promised, begins_at, checked_more, checked
 use Rattle.text_code.proofs.Decoding.{begins_some}
 use Rattle.text_code.proofs.reading.count_characters.Goals as goal
 
-pub returns-in-default : goal.returns-in-default
-returns-in-default g c =
+pub returns-in_default : goal.returns-in_default
+returns-in_default g c =
     let f = g.C.ReadingCode.spells c.args.code.now in
-    let w = faulty_at f c.args.permitted c.args.bytes.now c.loop-at.at c.loop-at.characters c.read.result c.loop-at.invariant c.loop-at-test.true c.read.ensures.front c.in-default.ensures in
+    let w = faulty_at f c.args.permitted c.args.bytes.now c.loop-at.at c.loop-at.characters c.read.result c.loop-at.invariant c.loop-at-test.true c.read.ensures.front c.in_default.ensures in
     let p = promised f c.args.permitted c.args.bytes.now (Err c.loop-at.at) (g.met.C.ReadingCode.short c.args.code.now) (g.met.C.ReadingCode.apart c.args.code.now) w in
     record { answer = p.answer; only = p.only; unique = p.unique }
 

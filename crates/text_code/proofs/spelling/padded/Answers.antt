@@ -4,4 +4,4 @@ use Rattle.text_code.proofs.spelling.padded.Goals as goal
 
 pub returns : goal.returns
 returns c =
-    record { front = take_at c.copy-from-slice.new.self _ (length c.args.bytes.now) (ap length c.copy-from-slice.ensures.after) ∙ c.copy-from-slice.ensures.after }
+    record { front = take_at c.copy_from_slice.new.self _ (length c.args.bytes.now) (ap length c.copy_from_slice.ensures.after) ∙ c.copy_from_slice.ensures.after }

@@ -4,9 +4,9 @@ use Rattle.text_code.proofs.Decoding.{spelt}
 use Rattle.text_code.proofs.Laying.{lay_done, lay_more, lay_spells, lay_start, lay_within, unlaid_unspelled}
 use Rattle.text_code.proofs.writing.lay_characters.Goals as goal
 
-pub returns-in-default : goal.returns-in-default
-returns-in-default g c =
-    record { laid = unlaid_unspelled (g.C.ReadingCode.spells c.args.code.now) c.args.characters.now c.args.buffer.now c.args.place c.in-default.field-0 c.in-default.ensures.only }
+pub returns-in_default : goal.returns-in_default
+returns-in_default g c =
+    record { laid = unlaid_unspelled (g.C.ReadingCode.spells c.args.code.now) c.args.characters.now c.args.buffer.now c.args.place c.in_default.field-0 c.in_default.ensures.only }
 
 pub loop-character-init : goal.loop-character-init
 loop-character-init g c =
@@ -15,18 +15,18 @@ loop-character-init g c =
 
 pub unreachable-requires : goal.unreachable-requires
 unreachable-requires g c =
-    lay_spells (g.C.ReadingCode.spells c.args.code.now) c.args.characters.now c.args.buffer.now c.loop-character.buffer c.args.place c.loop-character.character-index c.loop-character.at c.loop-character-test.true c.loop-character.invariant c.in-default-spell.ensures.spelling
+    lay_spells (g.C.ReadingCode.spells c.args.code.now) c.args.characters.now c.args.buffer.now c.loop-character.buffer c.args.place c.loop-character.character-index c.loop-character.at c.loop-character-test.true c.loop-character.invariant c.in_default-spell.ensures.spelling
 
 pub lay-at-requires : goal.lay-at-requires
 lay-at-requires g c =
-    let e = spelt (g.C.ReadingCode.spells c.args.code.now (get_or c.args.characters.now c.loop-character.character-index 0)) c.as-bytes.result.now (spelling_bytes c.in-Some.spelling) c.in-Some.ensures.spelling c.as-bytes.ensures.value in
-    let h = lay_within (g.C.ReadingCode.spells c.args.code.now) c.args.characters.now c.args.buffer.now c.loop-character.buffer c.as-bytes.result.now c.args.place c.loop-character.character-index c.loop-character.at c.loop-character-test.true c.loop-character.invariant e in
+    let e = spelt (g.C.ReadingCode.spells c.args.code.now (get_or c.args.characters.now c.loop-character.character-index 0)) c.as_bytes.result.now (spelling_bytes c.in-Some.spelling) c.in-Some.ensures.spelling c.as_bytes.ensures.value in
+    let h = lay_within (g.C.ReadingCode.spells c.args.code.now) c.args.characters.now c.args.buffer.now c.loop-character.buffer c.as_bytes.result.now c.args.place c.loop-character.character-index c.loop-character.at c.loop-character-test.true c.loop-character.invariant e in
     search rules
 
 pub loop-character-preserved : goal.loop-character-preserved
 loop-character-preserved g c =
-    let e = spelt (g.C.ReadingCode.spells c.args.code.now (get_or c.args.characters.now c.loop-character.character-index 0)) c.as-bytes.result.now (spelling_bytes c.in-Some.spelling) c.in-Some.ensures.spelling c.as-bytes.ensures.value in
-    lay_more (g.C.ReadingCode.spells c.args.code.now) c.args.characters.now c.args.buffer.now c.loop-character.buffer c.as-bytes.result.now c.lay-at.new.buffer c.args.place c.loop-character.character-index c.loop-character.at c.lay-at.result c.loop-character-test.true c.loop-character.auto.buffer c.loop-character.invariant e c.lay-at.ensures.holds c.lay-at.ensures.end
+    let e = spelt (g.C.ReadingCode.spells c.args.code.now (get_or c.args.characters.now c.loop-character.character-index 0)) c.as_bytes.result.now (spelling_bytes c.in-Some.spelling) c.in-Some.ensures.spelling c.as_bytes.ensures.value in
+    lay_more (g.C.ReadingCode.spells c.args.code.now) c.args.characters.now c.args.buffer.now c.loop-character.buffer c.as_bytes.result.now c.lay-at.new.buffer c.args.place c.loop-character.character-index c.loop-character.at c.lay-at.result c.loop-character-test.true c.loop-character.auto.buffer c.loop-character.invariant e c.lay-at.ensures.holds c.lay-at.ensures.end
 
 pub returns : goal.returns
 returns g c =

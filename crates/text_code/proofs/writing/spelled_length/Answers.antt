@@ -2,14 +2,14 @@ use Rattle.std.proofs.Common.{get_or, Ok, Err, rules}
 use Rattle.text_code.proofs.Measuring.{length_bound, measured_more, measured_all, only_measure, unwritable_at}
 use Rattle.text_code.proofs.writing.spelled_length.Goals as goal
 
-pub returns-in-default : goal.returns-in-default
-returns-in-default g c =
+pub returns-in_default : goal.returns-in_default
+returns-in_default g c =
     let f = g.C.ReadingCode.spells c.args.code.now in
-    let w = unwritable_at f c.args.permitted c.args.characters.now c.loop-index.index c.loop-index.length c.loop-index-test.true c.loop-index.invariant c.in-default.ensures.value in
+    let w = unwritable_at f c.args.permitted c.args.characters.now c.loop-index.index c.loop-index.length c.loop-index-test.true c.loop-index.invariant c.in_default.ensures.value in
     record { answer = w; only = only_measure f c.args.permitted c.args.characters.now (Err c.loop-index.index) w }
 
-pub overflow-add-length : goal.overflow-add-length
-overflow-add-length g c =
+pub overflow_add-length : goal.overflow_add-length
+overflow_add-length g c =
     let most = length_bound (g.C.ReadingCode.spells c.args.code.now) c.args.permitted (get_or c.args.characters.now c.loop-index.index 0) c.in-Some.more (g.met.C.ReadingCode.short c.args.code.now) c.in-Some.ensures.value in
     search rules
 

@@ -1,19 +1,21 @@
 use Rattle.std.proofs.Common.{arith}
-use Rattle.validity.proofs.Layering.{at_most_one, counted_as, counted_at, counts_more, meet_where_shared}
+use Rattle.validity.proofs.Layering.{counts_none, counts_below, counts_more, counts_all, at_most_one}
 use Rattle.validity.proofs.layers.counting_field.Goals as goal
 
+pub loop-index-init : goal.loop-index-init
+loop-index-init c = counts_none c.args.fields.now c.args.line c.args.column
+
+pub lay_over-counting-requires : goal.lay_over-counting-requires
+lay_over-counting-requires c =
+    (omega arith, counts_below c.args.fields.now c.args.line c.args.column c.loop-index.index c.loop-index.counting c.loop-index.invariant)
+
 pub loop-index-preserved : goal.loop-index-preserved
-loop-index-preserved g c = (
-  counts_more g.F.Placed.place c.args.fields.now c.args.line c.args.column c.loop-index.index c.loop-index.counting c.lay-over-counting.result c.index-fields-index.result c.rectangle.result (omega arith) c.index-fields-index.is c.rectangle.ensures.value c.lay-over-counting.ensures c.loop-index.invariant.0,
-  omega arith,
-)
+loop-index-preserved c =
+    counts_more c.args.fields.now c.args.line c.args.column c.loop-index.index c.loop-index.counting c.lay_over-counting.result c.lay_over-counting.ensures c.loop-index.invariant
 
 pub returns : goal.returns
-returns g c =
-    let a = counted_at g.F.Placed.place c.args.fields.now c.args.line c.args.column c.loop-index.index c.loop-index.counting c.index-of.result c.loop-index-test.false c.loop-index.invariant.1 c.index-of.ensures c.loop-index.invariant.0 in
+returns c =
     record {
-      answer = a;
-      field = counted_as g.F.Placed.place c.args.fields.now c.args.line c.args.column c.index-of.result a;
+      answer = counts_all c.args.fields.now c.args.line c.args.column c.loop-index.index c.loop-index.counting (omega arith) c.loop-index.invariant;
       one = at_most_one;
-      shared = meet_where_shared;
     }

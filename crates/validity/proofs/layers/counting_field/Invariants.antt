@@ -1,7 +1,5 @@
-use Rattle.std.proofs.Common.{◌≤◌, length}
-use Rattle.field.specs.Areas.{areas_of}
 use Rattle.validity.proofs.Layering.{CountsTo}
 use Rattle.validity.proofs.layers.counting_field.Given as goal
 
 abbrev pub invariant-loop-index : goal.invariant-loop-index
-invariant-loop-index g l = CountsTo (areas_of g.F.Placed.place l.fields) l.line l.column l.index l.counting × (l.index ≤ length l.fields)
+invariant-loop-index l = CountsTo l.fields l.line l.column l.index l.counting

@@ -4,8 +4,8 @@ use Rattle.std.proofs.lemmas.List.{at_drop_more, at_drop_all}
 use Rattle.validity.specs.Zoning.{ones_of}
 use Rattle.validity.proofs.marks.count_zones.Goals as goal
 
-pub overflow-add-count : goal.overflow-add-count
-overflow-add-count c =
+pub overflow_add-count : goal.overflow_add-count
+overflow_add-count c =
     let w = get_or c.args.words.now c.loop-word.word-index 0 in
     let l : ones w ≤ 64 = ones-le 64 w (omega arith) in omega arith
 

@@ -6,5 +6,5 @@ use Rattle.validity.proofs.period_text.period_of_text.Goals as goal
 pub returns : goal.returns
 returns c =
     let bytes = c.args.bytes.now in
-    let a : PeriodOf bytes c.read-period.result = subst (PeriodOf bytes) (sym c.read-period.ensures) (period_law bytes) in
-    record { answer = a; codes = in_every_code bytes c.read-period.result a; law = period_law }
+    let a : PeriodOf bytes c.read_period.result = subst (PeriodOf bytes) (sym c.read_period.ensures) (period_law bytes) in
+    record { answer = a; codes = in_every_code bytes c.read_period.result a; law = period_law }

@@ -10,16 +10,16 @@ returns-in-Err g c =
     let t = characters_told f c.args.height c.args.width c.args.characters.now (Err c.in-Err.index) (Err (Character c.in-Err.index)) e.only e.answer in
     record { answer = t.answer; only = t.only }
 
-pub returns-then-fits-in : goal.returns-then-fits-in
-returns-then-fits-in g c =
+pub returns-then-fits_in : goal.returns-then-fits_in
+returns-then-fits_in g c =
     let f = g.C.ReadingCode.spells c.args.code.now in
-    let e = c.in-default.ensures in
-    let t = characters_told f c.args.height c.args.width c.args.characters.now (Ok c.in-default.field-0) (Ok tt) e.only (characters_fit f c.args.height c.args.width c.in-default.field-0 c.args.characters.now true e.answer (c.if-fits-in.ensures.answer c.args.characters.now refl)) in
+    let e = c.in_default.ensures in
+    let t = characters_told f c.args.height c.args.width c.args.characters.now (Ok c.in_default.field-0) (Ok tt) e.only (characters_fit f c.args.height c.args.width c.in_default.field-0 c.args.characters.now true e.answer (c.if-fits_in.ensures.answer c.args.characters.now refl)) in
     record { answer = t.answer; only = t.only }
 
-pub returns-else-fits-in : goal.returns-else-fits-in
-returns-else-fits-in g c =
+pub returns-else-fits_in : goal.returns-else-fits_in
+returns-else-fits_in g c =
     let f = g.C.ReadingCode.spells c.args.code.now in
-    let e = c.in-default.ensures in
-    let t = characters_told f c.args.height c.args.width c.args.characters.now (Ok c.in-default.field-0) (Err TooLarge) e.only (characters_fit f c.args.height c.args.width c.in-default.field-0 c.args.characters.now false e.answer (c.if-fits-in.ensures.answer c.args.characters.now refl)) in
+    let e = c.in_default.ensures in
+    let t = characters_told f c.args.height c.args.width c.args.characters.now (Ok c.in_default.field-0) (Err TooLarge) e.only (characters_fit f c.args.height c.args.width c.in_default.field-0 c.args.characters.now false e.answer (c.if-fits_in.ensures.answer c.args.characters.now refl)) in
     record { answer = t.answer; only = t.only }

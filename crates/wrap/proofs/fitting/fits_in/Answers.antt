@@ -14,14 +14,14 @@ loop-word-preserved g c =
     let next = c.behind-cursor.result in
     let e = c.behind-cursor.ensures in
     λ cs s. let left = c.loop-word.invariant cs s in
-    fit_more (g.S.Characters.stands c.args.source.now) c.args.height c.args.width at.place at.row at.column cs c.in-Some.word next.place next.row next.column e.0 e.1 e.2 (sym c.if-not-is-inside.ensures) left (c.in-Some.ensures.word left.rest left.stands)
+    fit_more (g.S.Characters.stands c.args.source.now) c.args.height c.args.width at.place at.row at.column cs c.in-Some.word next.place next.row next.column e.0 e.1 e.2 (sym c.if-not-is_inside.ensures) left (c.in-Some.ensures.word left.rest left.stands)
 
-pub returns-then-not-is-inside : goal.returns-then-not-is-inside
-returns-then-not-is-inside g c =
+pub returns-then-not-is_inside : goal.returns-then-not-is_inside
+returns-then-not-is_inside g c =
     let at = c.loop-word.cursor in
     record {
       answer = λ cs s. let left = c.loop-word.invariant cs s in
-          fit_not (g.S.Characters.stands c.args.source.now) c.args.height c.args.width at.place at.row at.column cs c.in-Some.word (sym c.if-not-is-inside.ensures) left (c.in-Some.ensures.word left.rest left.stands);
+          fit_not (g.S.Characters.stands c.args.source.now) c.args.height c.args.width at.place at.row at.column cs c.in-Some.word (sym c.if-not-is_inside.ensures) left (c.in-Some.ensures.word left.rest left.stands);
       inside = fits_inside;
       order = reading_order;
       apart = one_to_a_cell;
@@ -33,7 +33,7 @@ returns g c =
     let at = c.loop-word.cursor in
     record {
       answer = λ cs s. let left = c.loop-word.invariant cs s in
-          fit_all (g.S.Characters.stands c.args.source.now) c.args.height c.args.width at.place at.row at.column cs left (c.in-default.ensures.word left.rest left.stands);
+          fit_all (g.S.Characters.stands c.args.source.now) c.args.height c.args.width at.place at.row at.column cs left (c.in_default.ensures.word left.rest left.stands);
       inside = fits_inside;
       order = reading_order;
       apart = one_to_a_cell;

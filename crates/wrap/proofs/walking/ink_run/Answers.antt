@@ -15,20 +15,20 @@ loop-decoded-preserved g c =
       λ h. w.before,
     )
 
-pub returns-in-default : goal.returns-in-default
-returns-in-default g c =
+pub returns-in_default : goal.returns-in_default
+returns-in_default g c =
     let i = c.loop-decoded.invariant in
     record {
-      run = λ cs s. let a = run_none (g.S.Characters.stands c.args.source.now) cs c.loop-decoded.end c.loop-decoded.length c.in-default.ensures.character (i.0 cs s) in record { long = a.long; behind = a.behind };
+      run = λ cs s. let a = run_none (g.S.Characters.stands c.args.source.now) cs c.loop-decoded.end c.loop-decoded.length c.in_default.ensures.character (i.0 cs s) in record { long = a.long; behind = a.behind };
       ahead = i.1;
       within = i.2;
     }
 
-pub returns-in-default-class-of : goal.returns-in-default-class-of
-returns-in-default-class-of g c =
+pub returns-in_default-class_of : goal.returns-in_default-class_of
+returns-in_default-class_of g c =
     let i = c.loop-decoded.invariant in
     record {
-      run = λ cs s. let a = run_other (g.S.Characters.stands c.args.source.now) cs c.loop-decoded.end c.loop-decoded.length c.in-Some.decoded (λ e. c.in-default-class-of.not-Ink (c.class-of.ensures.class ∙ e)) c.in-Some.ensures.character (i.0 cs s) in record { long = a.long; behind = a.behind };
+      run = λ cs s. let a = run_other (g.S.Characters.stands c.args.source.now) cs c.loop-decoded.end c.loop-decoded.length c.in-Some.decoded (λ e. c.in_default-class_of.not-Ink (c.class_of.ensures.class ∙ e)) c.in-Some.ensures.character (i.0 cs s) in record { long = a.long; behind = a.behind };
       ahead = i.1;
       within = i.2;
     }

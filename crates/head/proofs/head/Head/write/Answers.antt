@@ -6,7 +6,7 @@ pub returns : goal.returns
 returns c =
     let h = c.args.self.now in
     record {
-      value = c.write-items.ensures.value;
+      value = c.write_items.ensures.value;
       after = search rules;
       reads_back = reads_back_all h.items h.checked;
       alone = alone_all h.items h.checked;

@@ -11,5 +11,5 @@ returns g c =
     let fits : s.lines * s.columns ≤ room = rw c.fitted.ensures.value (fitting_room p.size.lines p.size.columns room) in
     record {
       answer = cc;
-      within = rw c.index-in.ensures.answer (index_inside s c.args.line c.args.column room fits);
+      within = rw c.index_in.ensures.answer (index_inside s c.args.line c.args.column room fits);
     }

@@ -9,7 +9,7 @@ use Rattle.page.specs.Places.{index_at, shown_set}
 use Rattle.page.proofs.grid.GridPage.place.Goals as goal
 
 pub store-requires : goal.store-requires
-store-requires g c = record { within = c.in-Some.ensures.within; lawful = sym c.if-not-is-lawful.ensures.answer }
+store-requires g c = record { within = c.in-Some.ensures.within; lawful = sym c.if-not-is_lawful.ensures.answer }
 
 pub returns : goal.returns
 unfolding grid_size grid_cells
@@ -18,7 +18,7 @@ returns g c =
     let line = c.args.line in let column = c.args.column in
     let s : Size = fitting_size p.size.lines p.size.columns (m.room p.memory) in
     let at = index_at (inside s.lines s.columns line column) c.in-Some.index (line * s.columns + column) c.in-Some.ensures.answer in
-    let lawful : lawful_cell c.args.cell ≡ true = sym c.if-not-is-lawful.ensures.answer in
+    let lawful : lawful_cell c.args.cell ≡ true = sym c.if-not-is_lawful.ensures.answer in
     let kept : fitting_size p.size.lines p.size.columns (m.room after) ≡ s = ap (fitting_size p.size.lines p.size.columns) c.store.ensures.room in
     record {
       answer = sym (cond-true (inside s.lines s.columns line column) _ Outside at.0 ∙ cond-true (lawful_cell c.args.cell) Set Unlawful lawful);

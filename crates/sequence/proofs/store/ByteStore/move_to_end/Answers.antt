@@ -6,15 +6,15 @@ use Rattle.sequence.proofs.FrontLaws.{front_moved}
 use Rattle.sequence.proofs.PieceLaws.{pieces_moved, pieces_become}
 use Rattle.sequence.proofs.store.ByteStore.move_to_end.Goals as goal
 
-pub returns-then-lies-within : goal.returns-then-lies-within
-returns-then-lies-within c =
+pub returns-then-lies_within : goal.returns-then-lies_within
+returns-then-lies_within c =
     let s = c.args.self.now in
     let h = held_bytes s in
     let p = c.args.place in
     let k = c.args.count in
     let told : true ≡ leb (p + k) (length h) = search rules in
-    let front = front_moved p k s.used c.used-end.result s.bytes.now c.used-end.ensures.value (leb-true (p + k) c.used-end.result (sym c.if-lies-within.ensures)) in
-    let holds : take s.used c.move-behind.new.items ≡ moved p k h = cc in
+    let front = front_moved p k s.used c.used-end.result s.bytes.now c.used-end.ensures.value (leb-true (p + k) c.used-end.result (sym c.if-lies_within.ensures)) in
+    let holds : take s.used c.move_behind.new.items ≡ moved p k h = cc in
     record {
       told = told;
       holds = holds;
@@ -23,8 +23,8 @@ returns-then-lies-within c =
       refused = search rules;
     }
 
-pub returns-else-lies-within : goal.returns-else-lies-within
-returns-else-lies-within c =
+pub returns-else-lies_within : goal.returns-else-lies_within
+returns-else-lies_within c =
     let h = held_bytes c.args.self.now in
     let p = c.args.place in
     let k = c.args.count in

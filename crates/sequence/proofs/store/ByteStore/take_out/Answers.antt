@@ -6,14 +6,14 @@ use Rattle.sequence.proofs.FrontLaws.{front_without}
 use Rattle.sequence.proofs.PieceLaws.{pieces_without, pieces_become}
 use Rattle.sequence.proofs.store.ByteStore.take_out.Goals as goal
 
-pub returns-then-lies-within : goal.returns-then-lies-within
-returns-then-lies-within c =
+pub returns-then-lies_within : goal.returns-then-lies_within
+returns-then-lies_within c =
     let s = c.args.self.now in
     let h = held_bytes s in
     let p = c.args.place in
     let k = c.args.count in
     let told : true ≡ leb (p + k) (length h) = search rules in
-    let front = front_without p k s.used c.used-used.result s.bytes.now c.used-used.ensures.value (leb-true (p + k) c.used-used.result (sym c.if-lies-within.ensures)) in
+    let front = front_without p k s.used c.used-used.result s.bytes.now c.used-used.ensures.value (leb-true (p + k) c.used-used.result (sym c.if-lies_within.ensures)) in
     let holds : held_bytes c.cut.new.self ≡ without p k h = cc in
     record {
       told = told;
@@ -23,8 +23,8 @@ returns-then-lies-within c =
       refused = search rules;
     }
 
-pub returns-else-lies-within : goal.returns-else-lies-within
-returns-else-lies-within c =
+pub returns-else-lies_within : goal.returns-else-lies_within
+returns-else-lies_within c =
     let h = held_bytes c.args.self.now in
     let p = c.args.place in
     let k = c.args.count in

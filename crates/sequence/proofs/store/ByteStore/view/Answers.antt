@@ -6,8 +6,8 @@ use Rattle.sequence.proofs.FrontLaws.{front_part}
 use Rattle.sequence.proofs.PieceLaws.{piece_told}
 use Rattle.sequence.proofs.store.ByteStore.view.Goals as goal
 
-pub returns-then-lies-within : goal.returns-then-lies-within
-returns-then-lies-within c =
+pub returns-then-lies_within : goal.returns-then-lies_within
+returns-then-lies_within c =
     let s = c.args.self.now in
     let xs = s.bytes.now in
     let h = held_bytes s in
@@ -19,8 +19,8 @@ returns-then-lies-within c =
     ∙ sym (cond-true (leb (p + k) (length h)) (Some (part p k h)) None yes) in
     record { told = told; piece = piece_told h p k _ told }
 
-pub returns-else-lies-within : goal.returns-else-lies-within
-returns-else-lies-within c =
+pub returns-else-lies_within : goal.returns-else-lies_within
+returns-else-lies_within c =
     let h = held_bytes c.args.self.now in
     let p = c.args.place in
     let k = c.args.count in

@@ -6,8 +6,8 @@ use Rattle.sequence.proofs.FrontLaws.{front_spliced}
 use Rattle.sequence.proofs.PieceLaws.{pieces_spliced, pieces_become}
 use Rattle.sequence.proofs.store.ByteStore.write_at.Goals as goal
 
-pub returns-then-lies-within : goal.returns-then-lies-within
-returns-then-lies-within c =
+pub returns-then-lies_within : goal.returns-then-lies_within
+returns-then-lies_within c =
     let s = c.args.self.now in
     let h = held_bytes s in
     let p = c.args.place in
@@ -23,8 +23,8 @@ returns-then-lies-within c =
       refused = search rules;
     }
 
-pub returns-else-lies-within : goal.returns-else-lies-within
-returns-else-lies-within c =
+pub returns-else-lies_within : goal.returns-else-lies_within
+returns-else-lies_within c =
     let h = held_bytes c.args.self.now in
     let p = c.args.place in
     let b = c.args.bytes.now in

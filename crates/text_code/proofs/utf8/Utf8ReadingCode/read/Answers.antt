@@ -7,4 +7,4 @@ returns-in-empty c = record { front = front c.args.bytes.now None (sym (front_no
 
 pub returns-in-len1-up : goal.returns-in-len1-up
 returns-in-len1-up c =
-    record { front = front c.args.bytes.now c.read-form.result (c.read-form.ensures ∙ sym (front_some c.args.bytes.now (search rules))) }
+    record { front = front c.args.bytes.now c.read_form.result (c.read_form.ensures ∙ sym (front_some c.args.bytes.now (search rules))) }

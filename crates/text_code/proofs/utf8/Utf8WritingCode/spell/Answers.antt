@@ -18,9 +18,9 @@ pub returns-in-65536-to-1114111 : goal.returns-in-65536-to-1114111
 unfolding utf8
 returns-in-65536-to-1114111 c = search rules
 
-pub returns-in-default : goal.returns-in-default
+pub returns-in_default : goal.returns-in_default
 unfolding utf8
-returns-in-default c = search rules
+returns-in_default c = search rules
 
 pub returns-in-2048-to-65535 : goal.returns-in-2048-to-65535
 unfolding utf8

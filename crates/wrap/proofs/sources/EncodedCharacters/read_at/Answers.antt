@@ -9,8 +9,8 @@ returns-then-place-self g c =
     let f = g.C.ReadingCode.spells code in
     let m : length bytes < 2 ^ 64 = search rules in
     record {
-      character = encoded_read f bytes c.args.place c.decode-at.result (g.met.C.ReadingCode.apart code) c.if-place-self.true c.decode-at.ensures.front;
-      within = encoded_within f bytes c.args.place c.decode-at.result (g.met.C.ReadingCode.short code) m c.if-place-self.true c.decode-at.ensures.front;
+      character = encoded_read f bytes c.args.place c.decode_at.result (g.met.C.ReadingCode.apart code) c.if-place-self.true c.decode_at.ensures.front;
+      within = encoded_within f bytes c.args.place c.decode_at.result (g.met.C.ReadingCode.short code) m c.if-place-self.true c.decode_at.ensures.front;
     }
 
 pub returns-else-place-self : goal.returns-else-place-self

@@ -4,7 +4,7 @@ use Rattle.wrap.proofs.sources.NumbersCharacters.read_at.Goals as goal
 
 pub returns-then-place-self : goal.returns-then-place-self
 returns-then-place-self c =
-    record { character = number_read c.args.self.now.characters.now c.args.place c.number-at.result c.if-place-self.true c.number-at.ensures; within = search rules }
+    record { character = number_read c.args.self.now.characters.now c.args.place c.number_at.result c.if-place-self.true c.number_at.ensures; within = search rules }
 
 pub returns-else-place-self : goal.returns-else-place-self
 returns-else-place-self c =

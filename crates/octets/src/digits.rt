@@ -1,0 +1,40 @@
+ghost use Rattle.std.specs.Prelude.{◌≡◌, ◌^◌, ◌<◌, length, IfOk};
+ghost use Rattle.octets.specs.Digits.{digits, numeral, digit_value};
+
+use refusal::ItemFault;
+
+/// The value of one digit, or the given fault.
+fn read_digit(byte: u8, fault: ItemFault) -> Result<u32, ItemFault>
+    ensures { result ≡ digit_value fault byte }
+{
+    match byte {
+        b'0'..=b'9' => Ok((byte - b'0') as u32),
+        _ => Err(fault),
+    }
+}
+
+/// The number that at most nine digits write, or the given fault.
+pub fn read_number(item: &[u8], fault: ItemFault) -> Result<u32, ItemFault>
+    ensures value { result ≡ numeral fault item.now }
+    ensures bound { IfOk result (λ n. n < 10 ^ length item.now) }
+{
+    if item.len() > 9 {
+        return Err(fault);
+    }
+    let mut value = 0;
+    for byte in item {
+        value = value * 10 + read_digit(*byte, fault)?;
+    }
+    Ok(value)
+}
+
+/// Fills the item with the last digits of a number, zeros before them.
+pub fn write_number(item: &mut [u8], number: u32)
+    ensures { item.new ≡ digits (length item.old) number }
+{
+    let mut rest = number;
+    for i in (0..item.len()).rev() {
+        item[i] = b'0' + (rest % 10) as u8;
+        rest /= 10;
+    }
+}
