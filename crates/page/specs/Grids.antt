@@ -28,7 +28,8 @@ abbrev pub index_in : Size → (line column : ℕ) → Option ℕ
 index_in size line column = cond (inside size.lines size.columns line column) (Some (line * size.columns + column)) None
 
 abbrev pub grid_index : {M : Type 0} → (M → ℕ) → Grid M → (line column : ℕ) → Option ℕ
-grid_index room g = index_in (grid_size room g)
+grid_index room g line column =
+    cond (inside (grid_size room g).lines (grid_size room g).columns line column) (Some (line * (grid_size room g).columns + column)) None
 
 -- every cell of a page shows a blank
 abbrev pub AllBlank : {M : Type 0} → (M → ℕ) → (M → ℕ → Cell) → Grid M → Type 0

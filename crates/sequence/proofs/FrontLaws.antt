@@ -24,7 +24,7 @@ front_anew n k xs ys e long =
     (cases_lt n (length xs))
 
 -- the entries before the end are moved, the others stay
-turned_is : {X : Type 0} (place count end : ℕ) (xs : List X) → place + count ≤ end → turned place count end xs ≡ moved place count (take end xs) ++ drop end xs
+pub turned_is : {X : Type 0} (place count end : ℕ) (xs : List X) → place + count ≤ end → turned place count end xs ≡ moved place count (take end xs) ++ drop end xs
 turned_is place count end xs within =
     let whole : place + (end - place) ≡ end = omega arith in
     let mid : part place (end - place) xs ≡ drop place (take end xs) = sym (drop-take place (end - place) xs) ∙ ap (λ m. drop place (take m xs)) whole in

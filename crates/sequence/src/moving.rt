@@ -1,5 +1,5 @@
-ghost use Rattle.std.specs.Prelude.{◌≡◌, ◌+◌, ◌≤◌, length, take, nat_le};
-ghost use Rattle.sequence.specs.Parts.{turned};
+ghost use Rattle.std.specs.Prelude.{◌≡◌, ◌+◌, ◌≤◌, ◌++◌, length, take, drop, nat_le};
+ghost use Rattle.sequence.specs.Parts.{moved, turned};
 
 /// Whether so many places from a place on lie before an end.
 pub(crate) fn lies_within(place: usize, count: usize, end: usize) -> bool
@@ -20,7 +20,8 @@ pub(crate) fn length_up_to<T>(items: &[T], most: usize) -> usize
 pub(crate) fn move_behind<T: Copy>(items: &mut [T], place: usize, count: usize, end: usize)
     requires within { place + count ≤ end }
     requires there { end ≤ length items.old }
-    ensures { items.new ≡ turned place count end items.old }
+    ensures moved { items.new ≡ moved place count (take end items.old) ++ drop end items.old }
+    ensures turned { items.new ≡ turned place count end items.old }
 {
     items[place..end].rotate_left(count);
 }

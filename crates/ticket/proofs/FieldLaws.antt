@@ -20,7 +20,6 @@ use Rattle.field.specs.Formattings.{lawful_formatting}
 use Rattle.text_code.specs.Reading.{Text}
 use Rattle.text_code.specs.Spellings.{OneToFour, OfCharacters, PrefixFree}
 use Rattle.text_code.specs.declared.characters.Permitted.TheVariants.{TicketText}
-use Rattle.wrap.specs.Flow.{fits}
 use Rattle.ticket.specs.Decoding.{text_in}
 use Rattle.ticket.specs.Lawful.{LawfulField}
 use Rattle.ticket.specs.Reading.{in_field, item_fault, in_body, number_at, tested_at, area_at, text_fault, text_at, ReadField, field_at}

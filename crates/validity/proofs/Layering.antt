@@ -1,9 +1,9 @@
 -- Fields laid one over another: which of those before a number counts at a cell.
-use Rattle.std.proofs.Common.{◌≡◌, ℕ, ◌+◌, ◌<◌, ◌≤◌, min, max, Bool, true, false, cond, ◌&&◌, eqb, ltb, leb, List, length, IfSome, Some, None, Option, sym, refl, ap, ◌∙◌, subst, ⊎_elim, arith}
+use Rattle.std.proofs.Common.{◌≡◌, ℕ, ◌+◌, ◌<◌, ◌≤◌, min, max, Bool, true, false, cond, ltb, List, length, IfSome, Some, None, Option, sym, refl, ap, ◌∙◌, subst, ⊎_elim, arith}
 use Rattle.std.proofs.lemmas.Bool.{and_parts, and_from, both_ways, cases_order, cases_lt}
 use Rattle.std.proofs.lemmas.Bool.Decides.{nat_tests}
 use Rattle.validity.specs.declared.answer.Rectangle.{Rectangle}
-use Rattle.validity.specs.Layers.{field_at, Covers, Counts, CountsAt, AtMostOne, meets, begins_at, over}
+use Rattle.validity.specs.Layers.{field_at, Covers, CountsAt, AtMostOne, meets, begins_at, over}
 
 -- a range from a to before a + h, and one from b to before b + k
 ranges_meet : (a h b k : ℕ) → ltb (max a b) (min (a + h) (b + k)) ≡ true → (max a b < a + h) × (max a b < b + k)

@@ -1,21 +1,22 @@
 -- The text of a moment and of a period: read back, taken apart and put together, in every code.
-use Rattle.std.proofs.Common.{◌≡◌, ℕ, zero, suc, ◌+◌, ◌*◌, ◌/◌, ◌%◌, ◌<◌, ◌≤◌, Bool, true, false, cond, ◌&&◌, eqb, leb, List, [], ◌∷◌, ◌++◌, length, get_or, take, drop, IfSome, Some, None, Option, sym, refl, ap, ◌∙◌, ap₂, arith, lit≤}
+use Rattle.std.proofs.Common.{◌≡◌, ℕ, zero, suc, ◌+◌, ◌*◌, ◌/◌, ◌%◌, ◌<◌, ◌≤◌, Bool, true, false, cond, ◌&&◌, eqb, leb, List, [], ◌∷◌, ◌++◌, length, get_or, take, drop, is_some, IfSome, Some, None, Option, sym, refl, ap, ◌∙◌, ap₂, arith, lit≤}
 use Rattle.std.proofs.ByRecursion.{All-append, All-push}
 use Rattle.std.proofs.lemmas.List.{take-append-drop, take_all, drop-drop, length-drop}
 use Rattle.std.proofs.lemmas.Slice.Eq.{bytes_eq-Decides}
-use Rattle.std.proofs.lemmas.Bool.{and_from, and_parts, cond_both, cond-true, eq-eqb, eqb-true, le-leb, leb-true}
+use Rattle.std.proofs.lemmas.Bool.{and_from, and_parts, false≢true, cond-false, cond_both, cond-true, eq-eqb, eqb-true, le-leb, leb-true}
 use Rattle.std.proofs.lemmas.Bool.Decides.{nat_tests}
 use Rattle.std.specs.List.{AllByRecursion}
 use Rattle.std.specs.Str.{bytes_eq}
 use Rattle.calendar.specs.declared.Date.{Date}
 use Rattle.calendar.specs.declared.Time.{Time}
+use Rattle.calendar.specs.declared.moments.Moment.{Moment}
 use Rattle.calendar.specs.Gregorian.{leap, month_lengths, real_date, real_time, seconds_of}
 use Rattle.calendar.proofs.Bounds.{date_bounds, time_bounds}
 use Rattle.text_code.specs.Spellings.{OneToFour, PrefixFree, OwnBytes, Spelled, spell_all}
 use Rattle.text_code.proofs.Unique.{unique_decoding}
 use Rattle.validity.specs.declared.answer.Period.{Period}
 use Rattle.octets.specs.Digits.{digits}
-use Rattle.validity.specs.Periods.{InEveryCode, InOrder, PeriodOf, Tells, between, date_at, date_text, moment_at, moment_text, period_of, period_text, seconds_if_real, time_at, time_text}
+use Rattle.validity.specs.Periods.{InEveryCode, InOrder, MomentOf, PeriodOf, ReadInEveryCode, Tells, between, date_at, date_text, moment_at, moment_seconds, moment_text, period_of, period_text, seconds_if_real, seconds_if_written, time_at, time_text}
 use Rattle.validity.proofs.ZoneAnswers.{own_spelled}
 
 -- reading back
@@ -71,6 +72,57 @@ time_back d t h =
     same_parts timed _ _ _ t.hour t.minute t.second (two_back t.hour (omega (arith, b.hour_to)))
     (two_back t.minute (omega (arith, b.minute_to))) (two_back t.second (omega (arith, b.second_to)))
 
+-- a moment made from a text that is its writing
+moment_some : (r : Option Moment) (d : Date) (t : Time) → is_some r ≡ true → IfSome r (λ m. (m.date ≡ d) × (m.time ≡ t))
+    → (m : Moment) × (r ≡ Some m) × (m.date ≡ d) × (m.time ≡ t)
+moment_some None d t h f = absurd (false≢true h)
+moment_some (Some m) d t h f = (m, refl, f.0, f.1)
+
+moment_same : (cs : List ℕ) (r : Option Moment) (d : Date) (t : Time) → cs ≡ moment_text d t → IfSome r (λ m. (m.date ≡ d) × (m.time ≡ t))
+    → IfSome r (λ m. cs ≡ moment_text m.date m.time)
+moment_same cs None d t e f = tt
+moment_same cs (Some m) d t e f = e ∙ ap₂ moment_text (sym f.0) (sym f.1)
+
+pub moment_written : (cs : List ℕ) (r : Option Moment) (d : Date) (t : Time) → d ≡ date_at cs → t ≡ time_at cs → cs ≡ moment_text d t
+    → is_some r ≡ (real_date d && real_time t) → IfSome r (λ m. (m.date ≡ d) × (m.time ≡ t)) → MomentOf cs r
+moment_written cs r d t p q w h f =
+    record {
+      told = λ e u re ru x.
+          let de : d ≡ e = p ∙ ap date_at x ∙ date_back e u re in
+          let tu : t ≡ u = q ∙ ap time_at x ∙ time_back e u ru in
+          let g = moment_some r d t (h ∙ and_from (real_date d) (real_time t) (ap real_date de ∙ re) (ap real_time tu ∙ ru)) f in
+          (g.0, g.1, g.2 ∙ de, g.3 ∙ tu);
+      only = moment_same cs r d t w f;
+    }
+
+pub moment_unwritten : (cs : List ℕ) (d : Date) (t : Time) → d ≡ date_at cs → t ≡ time_at cs → (cs ≡ moment_text d t → ⊥) → MomentOf cs None
+moment_unwritten cs d t p q n =
+    record {
+      told = λ e u re ru x.
+          let de : d ≡ e = p ∙ ap date_at x ∙ date_back e u re in
+          let tu : t ≡ u = q ∙ ap time_at x ∙ time_back e u ru in
+          absurd (n (x ∙ ap₂ moment_text (sym de) (sym tu)));
+      only = tt;
+    }
+
+-- its seconds are those of the text
+real_seconds : (r : Option Moment) (d : Date) (t : Time) → is_some r ≡ (real_date d && real_time t) → IfSome r (λ m. (m.date ≡ d) × (m.time ≡ t))
+    → moment_seconds r ≡ seconds_if_real d t
+real_seconds None d t a f = sym (cond-false (real_date d && real_time t) (Some (seconds_of d t)) None (sym a))
+real_seconds (Some m) d t a f =
+    ap₂ (λ e u. Some (seconds_of e u)) f.0 f.1 ∙ sym (cond-true (real_date d && real_time t) (Some (seconds_of d t)) None (sym a))
+
+pub seconds_written : (cs : List ℕ) (r : Option Moment) (d : Date) (t : Time) → d ≡ date_at cs → t ≡ time_at cs → cs ≡ moment_text d t
+    → is_some r ≡ (real_date d && real_time t) → IfSome r (λ m. (m.date ≡ d) × (m.time ≡ t)) → moment_seconds r ≡ moment_at cs
+seconds_written cs r d t p q w a f =
+    real_seconds r d t a f
+    ∙ sym (cond-true (bytes_eq cs (moment_text d t)) (seconds_if_real d t) None ((bytes_eq-Decides cs (moment_text d t)).1 w))
+    ∙ ap₂ (seconds_if_written cs) p q
+
+pub seconds_unwritten : (cs : List ℕ) (d : Date) (t : Time) → d ≡ date_at cs → t ≡ time_at cs → bytes_eq cs (moment_text d t) ≡ false → None ≡ moment_at cs
+seconds_unwritten cs d t p q h =
+    sym (cond-false (bytes_eq cs (moment_text d t)) (seconds_if_real d t) None h) ∙ ap₂ (seconds_if_written cs) p q
+
 -- a moment's text gives its seconds, and only such a text gives any
 
 pub moment_told : (cs : List ℕ) (d : Date) (t : Time) → real_date d ≡ true → real_time t ≡ true → cs ≡ moment_text d t → moment_at cs ≡ Some (seconds_of d t)
@@ -84,8 +136,8 @@ moment_told cs d t rd rt x =
 pub record Moments (cs : List ℕ) (s : ℕ) : Type 0 where
   pub date : Date
   pub time : Time
-  pub real_date_lem : real_date date ≡ true
-  pub real_time_lem : real_time time ≡ true
+  pub date_is_real : real_date date ≡ true
+  pub time_is_real : real_time time ≡ true
   pub text : cs ≡ moment_text date time
   pub seconds : s ≡ seconds_of date time
 
@@ -106,8 +158,8 @@ moment_only cs s e =
     record {
       date = d;
       time = t;
-      real_date_lem = r.0;
-      real_time_lem = r.1;
+      date_is_real = r.0;
+      time_is_real = r.1;
       text = (bytes_eq-Decides cs (moment_text d t)).0 p.0;
       seconds = some_same s (seconds_of d t) q.1;
     }
@@ -208,7 +260,7 @@ tells_both cs b l n m p q h =
       first_time = p.time;
       last_date = q.date;
       last_time = q.time;
-      real = record { begin_date = p.real_date_lem; begin_time = p.real_time_lem; end_date = q.real_date_lem; end_time = q.real_time_lem; order = order };
+      real = record { begin_date = p.date_is_real; begin_time = p.time_is_real; end_date = q.date_is_real; end_time = q.time_is_real; order = order };
       text = joined cs p.date p.time q.date q.time (record { long = n; first = p.text; middle = m; last = q.text });
       begins = p.seconds;
       ends = q.seconds;
@@ -244,4 +296,7 @@ one_answer cs None (Some p) a b = told_first cs p None b.only a
 one_answer cs (Some p) q a b = sym (told_first cs p q a.only b)
 
 pub in_every_code : (bytes : List ℕ) (r : Option Period) → PeriodOf bytes r → InEveryCode bytes r
-in_every_code bytes r a f short apart own cs s = one_answer cs r (period_of cs) (in_code f bytes cs r short apart own s a) (period_law cs)
+in_every_code bytes r a f short apart own cs s = in_code f bytes cs r short apart own s a
+
+pub read_in_every_code : (bytes : List ℕ) (r : Option Period) → PeriodOf bytes r → ReadInEveryCode bytes r
+read_in_every_code bytes r a f short apart own cs s = one_answer cs r (period_of cs) (in_code f bytes cs r short apart own s a) (period_law cs)

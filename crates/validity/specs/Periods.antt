@@ -3,6 +3,7 @@ use Rattle.std.specs.Prelude.{◌≡◌, ℕ, ◌+◌, ◌*◌, ◌%◌, ◌≤�
 use Rattle.std.specs.Str.{bytes_eq}
 use Rattle.calendar.specs.declared.Date.{Date}
 use Rattle.calendar.specs.declared.Time.{Time}
+use Rattle.calendar.specs.declared.moments.Moment.{Moment}
 use Rattle.calendar.specs.Gregorian.{real_date, real_time, seconds_of}
 use Rattle.text_code.specs.Spellings.{OneToFour, PrefixFree, OwnBytes, Spelled}
 use Rattle.validity.specs.declared.answer.Period.{Period}
@@ -65,6 +66,16 @@ seconds_if_real d t = cond (real_date d && real_time t) (Some (seconds_of d t)) 
 abbrev pub seconds_if_written : List ℕ → Date → Time → Option ℕ
 seconds_if_written cs d t = cond (bytes_eq cs (moment_text d t)) (seconds_if_real d t) None
 
+-- a moment exactly when the text is its writing
+pub record MomentOf (cs : List ℕ) (r : Option Moment) : Type 0 where
+  pub told : (d : Date) (t : Time) → real_date d ≡ true → real_time t ≡ true → cs ≡ moment_text d t
+      → (m : Moment) × (r ≡ Some m) × (m.date ≡ d) × (m.time ≡ t)
+  pub only : IfSome r (λ m. cs ≡ moment_text m.date m.time)
+
+abbrev pub moment_seconds : Option Moment → Option ℕ
+moment_seconds (Some m) = Some (seconds_of m.date m.time)
+moment_seconds None = None
+
 -- the seconds of the moment whose text this is, if it is that of a real one
 abbrev pub moment_at : List ℕ → Option ℕ
 moment_at cs = seconds_if_written cs (date_at cs) (time_at cs)
@@ -85,4 +96,9 @@ period_of cs = cond (two_parts cs) (between (moment_at (take 19 cs)) (moment_at 
 -- the bytes give the answer to their text in every code
 abbrev pub InEveryCode : List ℕ → Option Period → Type 0
 InEveryCode bytes r =
+    (f : ℕ → Option (List ℕ)) → OneToFour f → PrefixFree f → OwnBytes f → (cs : List ℕ) → Spelled f cs bytes → PeriodOf cs r
+
+-- which is the period that the parts of the text tell
+abbrev pub ReadInEveryCode : List ℕ → Option Period → Type 0
+ReadInEveryCode bytes r =
     (f : ℕ → Option (List ℕ)) → OneToFour f → PrefixFree f → OwnBytes f → (cs : List ℕ) → Spelled f cs bytes → r ≡ period_of cs

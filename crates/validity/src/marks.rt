@@ -4,7 +4,7 @@ ghost use Rattle.validity.specs.Zoning.{all_zones, ones_of, plain_zones, words_o
 use super::answer::{ZoneKind, Zones};
 
 /// The answer to a text that tells no zones.
-fn plain_zones() -> Zones
+pub(crate) fn plain_zones() -> Zones
     ensures { result ≡ plain_zones }
 {
     Zones {
@@ -57,7 +57,7 @@ pub(crate) fn mark(words: &mut [u64; 16], zone: u32)
 }
 
 /// The number of bits that are set.
-fn count_zones(words: &[u64; 16]) -> u32
+pub(crate) fn count_zones(words: &[u64; 16]) -> u32
     ensures { result ≡ ones_of words.now }
 {
     let mut count = 0;

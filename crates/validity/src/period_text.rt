@@ -1,5 +1,5 @@
 ghost use Rattle.std.specs.Prelude.{◌≡◌, ℕ, ◌+◌, ◌≤◌, List, length};
-ghost use Rattle.validity.specs.Periods.{InEveryCode, PeriodOf, between, date_at, moment_at, moment_text, period_of, seconds_if_real, seconds_if_written, time_at, two_at, two_parts};
+ghost use Rattle.validity.specs.Periods.{InEveryCode, MomentOf, PeriodOf, ReadInEveryCode, between, date_at, moment_at, moment_seconds, moment_text, period_of, time_at, two_at, two_parts};
 
 use super::answer::Period;
 use calendar::{Date, Moment, Time};
@@ -65,30 +65,27 @@ fn moment_bytes(date: Date, time: Time) -> [u8; 19]
     ]
 }
 
-/// The seconds of a moment, if it is real.
-fn seconds_of(date: Date, time: Time) -> Option<u64>
-    ensures { result ≡ seconds_if_real date time }
+/// The moment that a text of 19 bytes writes. It is read as if its digits stood in their places, and then compared with the moment's text.
+fn moment_of(text: &[u8]) -> Option<Moment>
+    requires { length text.now ≡ 19 }
+    ensures moment { MomentOf text.now result }
+    ensures seconds { moment_seconds result ≡ moment_at text.now }
 {
-    Some(Moment::new(date, time)?.seconds())
-}
-
-/// The seconds of a moment, if it is real and this is its text.
-fn written_seconds(text: &[u8], date: Date, time: Time) -> Option<u64>
-    ensures { result ≡ seconds_if_written text.now date time }
-{
+    let date = date_at(text);
+    let time = time_at(text);
     if same_bytes(text, &moment_bytes(date, time)) {
-        seconds_of(date, time)
+        Moment::new(date, time)
     } else {
         None
     }
 }
 
-/// The seconds of the moment that a text of 19 bytes writes. It is read as if its digits stood in their places, and then compared with the moment's text.
+/// The seconds of the moment that a text of 19 bytes writes.
 fn moment_at(text: &[u8]) -> Option<u64>
     requires { length text.now ≡ 19 }
     ensures { result ≡ moment_at text.now }
 {
-    written_seconds(text, date_at(text), time_at(text))
+    Some(moment_of(text)?.seconds())
 }
 
 /// The period from a beginning to an end that is not before it.
@@ -124,6 +121,7 @@ fn read_period(bytes: &[u8]) -> Option<Period>
 pub fn period_of_text(bytes: &[u8]) -> Option<Period>
     ensures answer { PeriodOf bytes.now result }
     ensures codes { InEveryCode bytes.now result }
+    ensures read { ReadInEveryCode bytes.now result }
     ensures law { (cs : List ℕ) → PeriodOf cs (period_of cs) }
 {
     read_period(bytes)

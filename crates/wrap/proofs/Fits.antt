@@ -1,5 +1,5 @@
 -- The fit of a text, word by word.
-use Rattle.std.proofs.Common.{◌≡◌, ℕ, ◌+◌, true, false, ◌&&◌, ltb, leb, List, [], length, sym, ap, ◌∙◌}
+use Rattle.std.proofs.Common.{◌≡◌, ℕ, ◌+◌, true, false, ◌&&◌, ltb, leb, List, [], sym, ap, ◌∙◌}
 use Rattle.wrap.specs.declared.cursor.Word.{Word}
 use Rattle.wrap.specs.Flow.{WordAt, words, all_fit, fits}
 use Rattle.wrap.specs.Walking.{Arrived}

@@ -1,4 +1,4 @@
-use Rattle.std.proofs.Common.{◌≡◌, ◌+◌, ◌-◌, true, false, cond, leb, length, Some, None, sym, ap, ◌∙◌, rules}
+use Rattle.std.proofs.Common.{◌≡◌, ◌+◌, true, false, cond, leb, length, Some, None, sym, ap, ◌∙◌, rules}
 use Rattle.std.proofs.lemmas.Bool.{leb-true, cond-true, cond-false}
 use Rattle.sequence.specs.Parts.{part}
 use Rattle.sequence.specs.Held.{held_bytes}

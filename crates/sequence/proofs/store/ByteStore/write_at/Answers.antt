@@ -1,4 +1,4 @@
-use Rattle.std.proofs.Common.{◌≡◌, ◌+◌, ◌-◌, true, false, leb, length, set, sym, refl, rules}
+use Rattle.std.proofs.Common.{◌≡◌, ◌+◌, true, false, leb, length, set, sym, refl, rules}
 use Rattle.std.proofs.lemmas.Bool.{leb-true}
 use Rattle.sequence.specs.Parts.{spliced}
 use Rattle.sequence.specs.Held.{held_bytes}
