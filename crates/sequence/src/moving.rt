@@ -16,6 +16,15 @@ pub(crate) fn length_up_to<T>(items: &[T], most: usize) -> usize
     most.min(items.len())
 }
 
+/// Turns the entries between a place and an end, so that the first ones come last.
+fn turn_part<T: Copy>(items: &mut [T], place: usize, count: usize, end: usize)
+    requires within { place + count ≤ end }
+    requires there { end ≤ length items.old }
+    ensures { items.new ≡ turned place count end items.old }
+{
+    items[place..end].rotate_left(count);
+}
+
 /// Moves so many entries from a place on behind the others that lie before an end.
 pub(crate) fn move_behind<T: Copy>(items: &mut [T], place: usize, count: usize, end: usize)
     requires within { place + count ≤ end }
@@ -23,5 +32,5 @@ pub(crate) fn move_behind<T: Copy>(items: &mut [T], place: usize, count: usize, 
     ensures moved { items.new ≡ moved place count (take end items.old) ++ drop end items.old }
     ensures turned { items.new ≡ turned place count end items.old }
 {
-    items[place..end].rotate_left(count);
+    turn_part(items, place, count, end);
 }
