@@ -1,5 +1,7 @@
 -- Sums of lengths that count from 1: where each length begins, and which one a number falls into.
-use Rattle.std.proofs.Common.{◌≡◌, ℕ, zero, suc, ◌+◌, ◌-◌, ◌<◌, ◌≤◌, ap, ⊎_elim, arith}
+use Rattle.std.proofs.Common.{◌≡◌, ℕ, zero, suc, ◌+◌, ◌-◌, ◌*◌, ◌<◌, ◌≤◌, refl, ap, ◌∙◌, ⊎_elim, map, sum, arith}
+use Rattle.std.specs.List.{range_with_len}
+use Rattle.std.proofs.lemmas.List.FromFn.{sum_by-map-range_with_len_more}
 use Rattle.std.proofs.lemmas.Bool.{cases_lt}
 use Rattle.calendar.specs.Gregorian.{sum_to}
 
@@ -7,6 +9,20 @@ pub sum_step : (f : ℕ → ℕ) (n : ℕ) → 1 ≤ n → sum_to f n ≡ sum_to
 unfolding sum_to
 sum_step f zero h = absurd (omega arith)
 sum_step f (suc n) h = ap (λ k. sum_to f k + f (suc n)) (omega arith)
+
+-- the sum as std has it
+pub sum_of_range : (f : ℕ → ℕ) (n : ℕ) → sum (map f (range_with_len 1 n)) ≡ sum_to f n
+unfolding sum_to
+sum_of_range f zero = refl
+sum_of_range f (suc n) =
+    let e : suc n ≡ n + 1 = omega arith in
+    ap (λ k. sum (map f (range_with_len 1 k))) e ∙ sum_by-map-range_with_len_more (λ x. x) f 1 n (suc n) (omega arith) ∙ ap (λ k. k + f (suc n)) (sum_of_range f n)
+
+-- lengths of at most k
+pub sum_at_most : (f : ℕ → ℕ) (k n : ℕ) → ((i : ℕ) → f i ≤ k) → sum_to f n ≤ k * n
+unfolding sum_to
+sum_at_most f k zero h = omega arith
+sum_at_most f k (suc n) h = omega (arith, sum_at_most f k n h, h (suc n))
 
 pub sum_climbs : (f : ℕ → ℕ) (m n : ℕ) → m ≤ n → sum_to f m ≤ sum_to f n
 unfolding sum_to

@@ -1,8 +1,8 @@
 //! Dates and times of the Gregorian calendar, and the seconds since 01.01.0001 00:00:00.
 #![tactic(auto)]
 
-ghost use Rattle.std.specs.Prelude.{◌≡◌, ◌-◌, ◌*◌, ◌≤◌, slice_index};
-ghost use Rattle.calendar.specs.Gregorian.{leap, month_lengths, month_length, real_date, real_time, days_before_year, days_before_month};
+ghost use Rattle.std.specs.Prelude.{◌≡◌, ◌*◌, ◌≤◌};
+ghost use Rattle.calendar.specs.Gregorian.{leap, month_length, real_date, real_time, days_before_year, days_before_month};
 
 mod moments;
 
@@ -34,22 +34,15 @@ pub fn is_leap_year(year: u16) -> bool
     year % 4 == 0 && (year % 100 != 0 || year % 400 == 0)
 }
 
-/// The days of a month in a common year.
-fn common_length(month: u8) -> u8
-    requires { (1 ≤ month) × (month ≤ 12) }
-    ensures { result ≡ slice_index month_lengths (month - 1) }
-{
-    MONTH_LENGTHS[(month - 1) as usize]
-}
-
+// month and year stay two numbers: a `Date` has a day besides
 /// The number of days of a month, 0 where `month` is not 1 to 12.
 pub fn month_length(month: u8, year: u16) -> u8
     ensures answer { result ≡ month_length month year }
 {
-    if month < 1 || month > 12 {
+    if !(1..=12).contains(&month) {
         return 0;
     }
-    let common = common_length(month);
+    let common = MONTH_LENGTHS[(month - 1) as usize];
     if month == 2 && is_leap_year(year) {
         common + 1
     } else {
@@ -71,11 +64,9 @@ fn days_before_month(month: u8, year: u16) -> u32
     ensures counts { result ≡ days_before_month month year }
     ensures bound { result ≤ 255 * month }
 {
-    let mut days: u32 = 0;
-    for earlier in 1..month {
-        days += month_length(earlier, year) as u32;
-    }
-    days
+    (1..month)
+        .map(|earlier| month_length(earlier, year) as u32)
+        .sum()
 }
 
 impl Date {
@@ -83,12 +74,9 @@ impl Date {
     pub fn is_real(&self) -> bool
         ensures answer { result ≡ real_date self.now }
     {
-        1 <= self.year
-            && self.year <= 9999
-            && 1 <= self.month
-            && self.month <= 12
-            && 1 <= self.day
-            && self.day <= month_length(self.month, self.year)
+        (1..=9999).contains(&self.year)
+            && (1..=12).contains(&self.month)
+            && (1..=month_length(self.month, self.year)).contains(&self.day)
     }
 }
 
@@ -118,10 +106,7 @@ mod tests {
     }
 
     fn seconds(date: Date, time: Time) -> Option<u64> {
-        match Moment::new(date, time) {
-            Some(moment) => Some(moment.seconds()),
-            None => None,
-        }
+        Moment::new(date, time).map(|moment| moment.seconds())
     }
 
     #[test]

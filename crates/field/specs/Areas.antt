@@ -1,5 +1,6 @@
 -- Rectangles on the area of 15 lines and 72 columns.
-use Rattle.std.specs.Prelude.{◌≡◌, ℕ, ◌+◌, Bool, true, false, ◌&&◌, List, map, Some, None, Option, nat_le, nat_lt}
+use Rattle.std.specs.Prelude.{◌≡◌, ℕ, ◌+◌, Bool, true, false, ◌&&◌, Some, None, Option, nat_le, nat_lt}
+use Rattle.field.specs.declared.cells.Cells.{Cells}
 use Rattle.field.specs.declared.rectangle.Rectangle.{Rectangle}
 
 pub record Area : Type 0 where
@@ -11,9 +12,8 @@ pub record Area : Type 0 where
 abbrev pub area_of : Rectangle → Area
 area_of x = record { line = x.line; column = x.column; height = x.height; width = x.width }
 
--- the areas of a list, each element of which has a rectangle
-abbrev pub areas_of : {X : Type 0} → (X → Rectangle) → List X → List Area
-areas_of place xs = map (λ x. area_of (place x)) xs
+abbrev pub area_of_cells : Cells → Area
+area_of_cells x = record { line = x.line; column = x.column; height = x.height; width = x.width }
 
 -- at least one cell, and none outside the area
 abbrev pub lawful : Area → Bool

@@ -4,6 +4,8 @@ ghost use Rattle.field.specs.Formattings.{FormattingOf};
 use super::formatting::Formatting;
 use super::rectangle::Rectangle;
 
+// new with an Option, not TryFrom: no error would tell more than that there is none, and four numbers are no one value
+
 impl Rectangle {
     /// The rectangle, if it has at least one cell and none outside the area.
     pub fn new(line: usize, column: usize, height: usize, width: usize) -> Option<Rectangle>

@@ -1,20 +1,29 @@
 ghost use Rattle.std.specs.Prelude.{◌≡◌};
-ghost use Rattle.field.specs.declared.rectangle.Rectangle.{Rectangle};
+ghost use Rattle.field.specs.Areas.{Area, area_of, area_of_cells};
 
+use super::cells::Cells;
 use super::rectangle::Rectangle;
 
-/// What stands in a rectangle.
+/// What has cells.
 pub trait Placed {
-    ghost place: { Self → Rectangle };
+    ghost place: { Self → Area };
 
-    fn rectangle(&self) -> Rectangle
-        ensures value { result ≡ place self.now };
+    fn cells(&self) -> Cells
+        ensures value { area_of_cells result ≡ place self.now };
+}
+
+impl Placed for Cells {
+    ghost place = { area_of_cells };
+
+    fn cells(&self) -> Cells {
+        *self
+    }
 }
 
 impl Placed for Rectangle {
-    ghost place = { λ x. x };
+    ghost place = { area_of };
 
-    fn rectangle(&self) -> Rectangle {
-        *self
+    fn cells(&self) -> Cells {
+        Cells::from(*self)
     }
 }

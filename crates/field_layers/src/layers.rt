@@ -1,86 +1,80 @@
-ghost use Rattle.std.specs.Prelude.{◌≡◌};
-ghost use Rattle.field.specs.Areas.{area_of, areas_of};
-ghost use Rattle.field_layers.specs.Layers.{AtMostOne, CountsAt, CountsIn, MeetWhereShared, begins, index_of, meets, over};
+ghost use Rattle.std.specs.Prelude.{◌≡◌, map, not, drop};
+ghost use Rattle.std.specs.List.{list_all};
+ghost use Rattle.field.specs.Areas.{area_of_cells};
+ghost use Rattle.field_layers.specs.Layers.{AtMostOne, CountsAt, CountsIn, LastOn, LawfulCovers, MeetWhereShared, begins_on, meets, meets_none};
 ghost use Rattle.field_layers.specs.FieldAnswers.{PeriodAt, ZonesAt};
 
-use super::candidate::Candidate;
-use field::{Placed, Rectangle};
+use field::{Cells, Placed};
 
-/// Whether two rectangles have a cell in common.
-fn meet(a: Rectangle, b: Rectangle) -> bool
-    ensures { result ≡ meets (area_of a) (area_of b) }
+/// Whether two things have a cell in common.
+fn meet(a: Cells, b: Cells) -> bool
+    ensures { result ≡ meets (area_of_cells a) (area_of_cells b) }
 {
-    let first_line = a.line.max(b.line);
-    let last_line = (a.line + a.height).min(b.line + b.height);
-    let first_column = a.column.max(b.column);
-    let last_column = (a.column + a.width).min(b.column + b.width);
+    let first_line = a.line.max(b.line) as u64;
+    let last_line = (a.line as u64 + a.height as u64).min(b.line as u64 + b.height as u64);
+    let first_column = a.column.max(b.column) as u64;
+    let last_column = (a.column as u64 + a.width as u64).min(b.column as u64 + b.width as u64);
     first_line < last_line && first_column < last_column
 }
 
-/// Whether a rectangle begins at a cell.
-fn begins_at(rectangle: Rectangle, line: usize, column: usize) -> bool
-    ensures { result ≡ begins (area_of rectangle) line column }
+/// Whether a thing begins at a cell and covers it.
+fn begins_on(cells: Cells, line: usize, column: usize) -> bool
+    ensures { result ≡ begins_on (area_of_cells cells) line column }
 {
-    rectangle.line == line && rectangle.column == column
+    cells.line as usize == line
+        && cells.column as usize == column
+        && 1 <= cells.height
+        && 1 <= cells.width
 }
 
-/// The field that counts once one more is laid over the earlier ones, of which `counting` did.
-fn lay_over(
-    counting: Option<Candidate>,
-    next: Candidate,
-    line: usize,
-    column: usize,
-) -> Option<Candidate>
-    ensures { result ≡ over line column counting next }
+/// The index of the last field that begins at a cell and covers it.
+fn last_on<F: Placed>(fields: &[F], line: usize, column: usize) -> Option<usize>
+    ensures { LastOn F.Placed.place fields.now line column result }
 {
-    if begins_at(next.rectangle, line, column) {
-        return Some(next);
-    }
-    match counting {
-        Some(earlier) if meet(earlier.rectangle, next.rectangle) => None,
-        _ => counting,
-    }
+    fields
+        .iter()
+        .rposition(|field| begins_on(field.cells(), line, column))
 }
 
-fn index_of(counting: Option<Candidate>) -> Option<usize>
-    ensures { result ≡ index_of counting }
+/// Whether a thing has no cell in common with any field from an index on.
+fn meets_none<F: Placed>(cells: Cells, fields: &[F], from: usize) -> bool
+    ensures { result ≡ list_all (λ x. not (meets (area_of_cells cells) (F.Placed.place x))) (drop from fields.now) }
 {
-    match counting {
-        Some(candidate) => Some(candidate.index),
-        None => None,
-    }
+    fields
+        .iter()
+        .skip(from)
+        .all(|field| !meet(cells, field.cells()))
 }
 
+// line and column are two numbers, as in a page's cells
 /// The index of the field that counts at a cell: it begins there, and no later field covers any of its cells.
 pub fn counting_field<F: Placed>(fields: &[F], line: usize, column: usize) -> Option<usize>
-    ensures answer { CountsAt (areas_of F.Placed.place fields.now) line column result }
-    ensures field { CountsIn (areas_of F.Placed.place fields.now) line column result }
+    ensures answer { CountsAt (map F.Placed.place fields.now) line column result }
+    ensures field { CountsIn (map F.Placed.place fields.now) line column result }
     ensures one { AtMostOne }
     ensures shared { MeetWhereShared }
+    ensures lawful { LawfulCovers }
 {
-    let mut counting = None;
-    for index in 0..fields.len() {
-        let next = Candidate {
-            index,
-            rectangle: fields[index].rectangle(),
-        };
-        counting = lay_over(counting, next, line, column);
+    let last = last_on(fields, line, column)?;
+    if meets_none(fields[last].cells(), fields, last + 1) {
+        Some(last)
+    } else {
+        None
     }
-    index_of(counting)
 }
 
 /// The index of the field that counts at the zone cell: line 1, column 12.
 pub fn zone_field<F: Placed>(fields: &[F]) -> Option<usize>
-    ensures answer { CountsAt (areas_of F.Placed.place fields.now) 1 12 result }
-    ensures zones { ZonesAt (areas_of F.Placed.place fields.now) result }
+    ensures answer { CountsAt (map F.Placed.place fields.now) 1 12 result }
+    ensures zones { ZonesAt (map F.Placed.place fields.now) result }
 {
     counting_field(fields, 1, 12)
 }
 
 /// The index of the field that counts at the period cell: line 3, column 1.
 pub fn period_field<F: Placed>(fields: &[F]) -> Option<usize>
-    ensures answer { CountsAt (areas_of F.Placed.place fields.now) 3 1 result }
-    ensures period { PeriodAt (areas_of F.Placed.place fields.now) result }
+    ensures answer { CountsAt (map F.Placed.place fields.now) 3 1 result }
+    ensures period { PeriodAt (map F.Placed.place fields.now) result }
 {
     counting_field(fields, 3, 1)
 }

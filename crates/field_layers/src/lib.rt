@@ -1,8 +1,7 @@
-//! Which of a list's elements counts at a cell, where each element stands in a rectangle of the area, and what the
-//! fields of a ticket tell by it.
+//! Which of a list's elements counts at a cell, where each element has cells, and what the fields of a ticket tell by
+//! it.
 #![tactic(auto)]
 
-mod candidate;
 mod layers;
 
 pub use layers::{counting_field, period_field, zone_field};

@@ -1,4 +1,6 @@
-use field::{Formatting, Placed, Rectangle};
+ghost use Rattle.field.specs.Areas.{area_of};
+
+use field::{Cells, Formatting, Placed, Rectangle};
 use field_layers::{counting_field, period_field, zone_field};
 use std::test::Fail;
 
@@ -11,10 +13,10 @@ struct Entry {
 }
 
 impl Placed for Entry {
-    ghost place = { λ x. x.rectangle };
+    ghost place = { λ x. area_of x.rectangle };
 
-    fn rectangle(&self) -> Rectangle {
-        self.rectangle
+    fn cells(&self) -> Cells {
+        self.rectangle.into()
     }
 }
 

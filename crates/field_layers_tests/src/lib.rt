@@ -1,5 +1,7 @@
-//! Runs the choice of a field on examples, in rectangles and in entries that hold more.
+//! Runs the choice of a field on examples, in cells, in rectangles and in entries that hold more.
 #![tactic(auto)]
 
+#[cfg(test)]
+mod cells;
 #[cfg(test)]
 mod fields;

@@ -1,8 +1,9 @@
 -- A head and its 53 bytes: what is read is what is written.
-use Rattle.std.proofs.Common.{◌≡◌, ℕ, ◌+◌, ◌≤◌, Bool, true, ◌&&◌, eqb, leb, List, ◌∷◌, ◌++◌, length, get_or, take, Ok, codes, sym, refl, ap, ◌∙◌, subst, ⊎_elim, append_assoc, arith, rules}
-use Rattle.std.proofs.lemmas.List.{length-append, length-take, take_all, take_at}
+use Rattle.std.proofs.Common.{◌≡◌, ℕ, ◌+◌, ◌≤◌, Bool, true, ◌&&◌, eqb, leb, List, ◌∷◌, ◌++◌, length, get_or, take, drop, Ok, codes, sym, refl, ap, ◌∙◌, subst, ⊎_elim, append_assoc, arith, rules}
+use Rattle.std.proofs.lemmas.List.{length-append, length-take, drop-take, take-take, take_all, take_at}
 use Rattle.std.proofs.lemmas.Bool.{and_parts, and_from, or_cases, leb-true, le-leb, eqb-true, cond_both}
 use Rattle.std.proofs.ByRecursion.{All-get_or}
+use Rattle.std.specs.List.{list_all}
 use Rattle.std.specs.Str.{bytes_eq}
 use Rattle.std.proofs.lemmas.Slice.Eq.{bytes_eq-Decides}
 use Rattle.calendar.specs.Gregorian.{leap, month_lengths, month_length, real_date, real_time}
@@ -10,7 +11,7 @@ use Rattle.calendar.proofs.Bounds.{date_bounds, time_bounds}
 use Rattle.refusal.specs.declared.faults.ItemFault.{ItemFault}
 use Rattle.refusal.specs.Chain.{lift, demand}
 use Rattle.refusal.specs.declared.faults.RecordFault.TheVariants.{Item}
-use Rattle.octets.specs.Bytes.{part, every, is_printable}
+use Rattle.octets.specs.Bytes.{part, is_printable}
 use Rattle.octets.specs.Digits.{numeral, digits}
 use Rattle.record.specs.Start.{body_length}
 use Rattle.head.specs.Heads.{is_letter, lawful, lawful_key, lawful_edition, lawful_language, lawful_second, edition_bytes, encode}
@@ -114,7 +115,7 @@ lawful_from h l =
     (and_from (leb h.flags 7) _ (le-leb h.flags 7 l.flags) (and_from (lawful_language h.language) (lawful_second h.second_language) l.language l.second))))
 
 length_key : (key : List ℕ) → lawful_key key ≡ true → length key ≡ 20
-length_key key e = eqb-true (length key) 20 (and_parts (eqb (length key) 20) (every is_printable key) e).0
+length_key key e = eqb-true (length key) 20 (and_parts (eqb (length key) 20) (list_all is_printable key) e).0
 
 length_language : (l : List ℕ) → lawful_language l ≡ true → length l ≡ 2
 length_language l e = eqb-true (length l) 2 (and_parts (eqb (length l) 2) (is_letter (get_or l 0 0) && is_letter (get_or l 1 0)) e).0
@@ -217,3 +218,21 @@ pub join_items : (h : HeadItems) → codes "U_HEAD010041" ++ digits 4 h.carrier 
 unfolding encode
 join_items h =
     join_seven (codes "U_HEAD010041") (digits 4 h.carrier) h.key (edition_bytes h.edition) (digits 1 h.flags) h.language h.second_language
+
+-- the items stand in the first 53 bytes
+part_front : (m : List ℕ) (p k w : ℕ) → w ≤ k → part (part m 0 (p + k)) p w ≡ part m p w
+part_front m p k w within = ap (take w) (drop-take p k m) ∙ take-take w k (drop p m) within
+
+pub items_front : (m : List ℕ) → items_at (part m 0 53) ≡ items_at m
+items_front m =
+    let carrier = part_front m 12 41 4 (omega arith) in
+    let key = part_front m 16 37 20 (omega arith) in
+    let day = part_front m 36 17 2 (omega arith) in
+    let month = part_front m 38 15 2 (omega arith) in
+    let year = part_front m 40 13 4 (omega arith) in
+    let hour = part_front m 44 9 2 (omega arith) in
+    let minute = part_front m 46 7 2 (omega arith) in
+    let flags = part_front m 48 5 1 (omega arith) in
+    let language = part_front m 49 4 2 (omega arith) in
+    let second = part_front m 51 2 2 (omega arith) in
+    simp (carrier, key, day, month, year, hour, minute, flags, language, second) refl

@@ -1,15 +1,16 @@
 -- What a head's items are, when they are lawful, and the 53 bytes of their record.
 use Rattle.std.specs.Prelude.{ℕ, Bool, ◌&&◌, ◌||◌, List, ◌++◌, length, codes, ◌==◌, nat_le, slice_index}
+use Rattle.std.specs.List.{list_all}
 use Rattle.std.specs.Str.{bytes_eq}
 use Rattle.calendar.specs.Gregorian.{real_date, real_time}
-use Rattle.octets.specs.Bytes.{within, every, is_printable}
+use Rattle.octets.specs.Bytes.{within, is_printable}
 use Rattle.octets.specs.Digits.{digits}
 use Rattle.head.specs.declared.items.Edition.{Edition}
 use Rattle.head.specs.declared.items.HeadItems.{HeadItems}
 
 -- 20 bytes from 32 to 126
 abbrev pub lawful_key : List ℕ → Bool
-lawful_key key = length key == 20 && every is_printable key
+lawful_key key = length key == 20 && list_all is_printable key
 
 -- a real date, hour and minute
 abbrev pub lawful_edition : Edition → Bool

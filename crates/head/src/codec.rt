@@ -1,7 +1,5 @@
-ghost use Rattle.std.specs.Prelude.{◌≡◌, ◌+◌, ◌≤◌, ◌++◌, length, drop, Ok};
+ghost use Rattle.std.specs.Prelude.{◌≡◌, Ok};
 ghost use Rattle.refusal.specs.Chain.{demand, then};
-ghost use Rattle.lists.specs.Laying.{laid};
-ghost use Rattle.octets.specs.Digits.{digits};
 ghost use Rattle.head.specs.Heads.{edition_bytes, encode, lawful};
 ghost use Rattle.head.specs.Reading.{fault_at, head_at};
 ghost use Rattle.head.specs.Writing.{over, written};
@@ -9,51 +7,37 @@ ghost use Rattle.head.specs.Told.{Alone, Exactly, ReadsBack, told};
 
 use super::head::Head;
 use super::items::{Edition, HeadItems};
-use super::reading::{head_fault, read_items};
-use octets::write_number;
+use super::reading::{head_fault, item_at, read_items};
+use lists::lay;
+use octets::number_digits;
 use record::{RecordKind, read_start};
 use refusal::{ItemFault, RecordFault, SheetCause, SheetFault, Site};
 
-/// Lays an item over the bytes from a place on.
-fn lay(buffer: &mut [u8], place: usize, item: &[u8])
-    requires { place + length item.now ≤ length buffer.old }
-    ensures { buffer.new ≡ laid buffer.old place item.now }
+fn edition_record(edition: &Edition) -> [u8; 12]
+    ensures { result ≡ edition_bytes edition.now }
 {
-    let end = place + item.len();
-    buffer[place..end].copy_from_slice(item);
+    let date = edition.date;
+    let mut bytes = [0; 12];
+    lay(&mut bytes, 0, &number_digits::<2>(date.day as u32));
+    lay(&mut bytes, 2, &number_digits::<2>(date.month as u32));
+    lay(&mut bytes, 4, &number_digits::<4>(date.year as u32));
+    lay(&mut bytes, 8, &number_digits::<2>(edition.hour as u32));
+    lay(&mut bytes, 10, &number_digits::<2>(edition.minute as u32));
+    bytes
 }
 
-/// Lays a number in digits over the bytes from a place on.
-fn lay_number(buffer: &mut [u8], place: usize, width: usize, number: u32)
-    requires { place + width ≤ length buffer.old }
-    ensures { buffer.new ≡ laid buffer.old place (digits width number) }
+fn head_record(items: &HeadItems) -> [u8; 53]
+    ensures { result ≡ encode items.now }
 {
-    let end = place + width;
-    write_number(&mut buffer[place..end], number);
-}
-
-fn lay_edition(buffer: &mut [u8], edition: &Edition)
-    requires { 48 ≤ length buffer.old }
-    ensures { buffer.new ≡ laid buffer.old 36 (edition_bytes edition.now) }
-{
-    lay_number(buffer, 36, 2, edition.date.day as u32);
-    lay_number(buffer, 38, 2, edition.date.month as u32);
-    lay_number(buffer, 40, 4, edition.date.year as u32);
-    lay_number(buffer, 44, 2, edition.hour as u32);
-    lay_number(buffer, 46, 2, edition.minute as u32);
-}
-
-fn lay_items(buffer: &mut [u8], items: &HeadItems)
-    requires { 53 ≤ length buffer.old }
-    ensures { buffer.new ≡ encode items.now ++ drop 53 buffer.old }
-{
-    lay(buffer, 0, b"U_HEAD010041");
-    lay_number(buffer, 12, 4, items.carrier as u32);
-    lay(buffer, 16, &items.key);
-    lay_edition(buffer, &items.edition);
-    lay_number(buffer, 48, 1, items.flags as u32);
-    lay(buffer, 49, &items.language);
-    lay(buffer, 51, &items.second_language);
+    let mut bytes = [0; 53];
+    lay(&mut bytes, 0, b"U_HEAD010041");
+    lay(&mut bytes, 12, &number_digits::<4>(items.carrier as u32));
+    lay(&mut bytes, 16, &items.key);
+    lay(&mut bytes, 36, &edition_record(&items.edition));
+    lay(&mut bytes, 48, &number_digits::<1>(items.flags as u32));
+    lay(&mut bytes, 49, &items.language);
+    lay(&mut bytes, 51, &items.second_language);
+    bytes
 }
 
 fn write_items(items: &HeadItems, buffer: &mut [u8]) -> Result<usize, SheetFault>
@@ -61,14 +45,10 @@ fn write_items(items: &HeadItems, buffer: &mut [u8]) -> Result<usize, SheetFault
     ensures after { buffer.new ≡ over items.now buffer.old }
 {
     if buffer.len() < 53 {
-        let site = Site {
-            record: 0,
-            field: 0,
-            place: 0,
-        };
+        let site = Site::in_record(0, 0);
         return Err(SheetFault::Own(SheetCause::BufferTooShort, site));
     }
-    lay_items(buffer, items);
+    lay(buffer, 0, &head_record(items));
     Ok(53)
 }
 
@@ -76,11 +56,12 @@ fn items_at_front(message: &[u8]) -> Result<HeadItems, RecordFault>
     ensures { result ≡ head_at message.now }
 {
     read_start(message, RecordKind::Head, 0, 0)?;
-    let items = read_items(message)?;
+    let items = read_items(&item_at(message, 0))?;
     Ok(items)
 }
 
 impl Head {
+    // a constructor, no TryFrom: items that are handed in are not a head written otherwise
     /// A head of these items, or refusal 7 where one of them is unlawful.
     pub fn new(items: HeadItems) -> Result<Head, ItemFault>
         ensures { told result ≡ then (demand (lawful items) (fault_at 0)) (λ _. Ok items) }

@@ -1,14 +1,14 @@
 ghost use Rattle.std.specs.Prelude.{◌≡◌};
-ghost use Rattle.head.specs.Heads.{is_letter, lawful, lawful_edition, lawful_key, lawful_language, lawful_second};
+ghost use Rattle.head.specs.Heads.{lawful, lawful_edition, lawful_key, lawful_language, lawful_second};
 
 use super::items::{Edition, HeadItems};
 use calendar::Time;
-use octets::{all_within, same_bytes};
+use octets::all_within;
 
-pub(crate) fn is_lawful_key(key: &[u8]) -> bool
+pub(crate) fn is_lawful_key(key: &[u8; 20]) -> bool
     ensures { result ≡ lawful_key key.now }
 {
-    key.len() == 20 && all_within(key, 32, 126)
+    all_within(key, 32, 126)
 }
 
 pub(crate) fn is_lawful_edition(edition: &Edition) -> bool
@@ -22,22 +22,16 @@ pub(crate) fn is_lawful_edition(edition: &Edition) -> bool
     edition.date.is_real() && time.is_real()
 }
 
-fn is_letter(byte: u8) -> bool
-    ensures { result ≡ is_letter byte }
-{
-    b'A' <= byte && byte <= b'Z' || b'a' <= byte && byte <= b'z'
-}
-
-pub(crate) fn is_lawful_language(language: &[u8]) -> bool
+pub(crate) fn is_lawful_language(language: &[u8; 2]) -> bool
     ensures { result ≡ lawful_language language.now }
 {
-    language.len() == 2 && is_letter(language[0]) && is_letter(language[1])
+    language[0].is_ascii_alphabetic() && language[1].is_ascii_alphabetic()
 }
 
-pub(crate) fn is_lawful_second(language: &[u8]) -> bool
+pub(crate) fn is_lawful_second(language: &[u8; 2]) -> bool
     ensures { result ≡ lawful_second language.now }
 {
-    is_lawful_language(language) || same_bytes(language, b"  ")
+    is_lawful_language(language) || language == b"  "
 }
 
 impl HeadItems {

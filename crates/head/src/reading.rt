@@ -1,7 +1,6 @@
-ghost use Rattle.std.specs.Prelude.{◌≡◌, ◌≤◌, length};
-ghost use Rattle.octets.specs.Digits.{numeral};
-ghost use Rattle.head.specs.Heads.{lawful_key, lawful_language, lawful_second};
-ghost use Rattle.head.specs.Reading.{edition_at, fault_at, flags_at, items_at, tested};
+ghost use Rattle.std.specs.Prelude.{◌≡◌, ◌+◌, ◌≤◌, length};
+ghost use Rattle.octets.specs.Bytes.{part};
+ghost use Rattle.head.specs.Reading.{edition_at, fault_at, flags_at, items_at};
 
 use super::items::{Edition, HeadItems};
 use super::lawful::{is_lawful_edition, is_lawful_key, is_lawful_language, is_lawful_second};
@@ -12,100 +11,59 @@ use refusal::{ItemCause, ItemFault, Site, demand};
 pub(crate) fn head_fault(place: usize) -> ItemFault
     ensures { result ≡ fault_at place }
 {
-    let site = Site {
-        record: 0,
-        field: 0,
-        place,
-    };
     ItemFault {
         cause: ItemCause::HeadItem,
-        site,
+        site: Site::in_record(0, place),
     }
 }
 
-fn two_digits(item: &[u8], fault: ItemFault) -> Result<u8, ItemFault>
-    requires { length item.now ≤ 2 }
-    ensures { result ≡ numeral fault item.now }
+/// The item at a place, as many bytes as the array has places.
+pub(crate) fn item_at<const WIDTH: usize>(bytes: &[u8], place: usize) -> [u8; WIDTH]
+    requires { place + WIDTH ≤ length bytes.now }
+    ensures { result ≡ part bytes.now place WIDTH }
 {
-    Ok(read_number(item, fault)? as u8)
+    let mut item = [0; WIDTH];
+    item.copy_from_slice(&bytes[place..place + WIDTH]);
+    item
 }
 
-fn four_digits(item: &[u8], fault: ItemFault) -> Result<u16, ItemFault>
-    requires { length item.now ≤ 4 }
-    ensures { result ≡ numeral fault item.now }
-{
-    Ok(read_number(item, fault)? as u16)
-}
-
-fn read_edition(message: &[u8]) -> Result<Edition, ItemFault>
-    requires { 53 ≤ length message.now }
-    ensures { result ≡ edition_at message.now }
+fn read_edition(bytes: &[u8; 53]) -> Result<Edition, ItemFault>
+    ensures { result ≡ edition_at bytes.now }
 {
     let fault = head_fault(36);
-    let day = two_digits(&message[36..38], fault)?;
-    let month = two_digits(&message[38..40], fault)?;
-    let year = four_digits(&message[40..44], fault)?;
-    let hour = two_digits(&message[44..46], fault)?;
-    let minute = two_digits(&message[46..48], fault)?;
+    // two digits fit u8, and four fit u16
+    let day = read_number(&bytes[36..38], fault)? as u8;
+    let month = read_number(&bytes[38..40], fault)? as u8;
+    let year = read_number(&bytes[40..44], fault)? as u16;
+    let hour = read_number(&bytes[44..46], fault)? as u8;
+    let minute = read_number(&bytes[46..48], fault)? as u8;
     let date = Date { day, month, year };
     let edition = Edition { date, hour, minute };
     demand(is_lawful_edition(&edition), fault)?;
     Ok(edition)
 }
 
-fn read_flags(message: &[u8]) -> Result<u8, ItemFault>
-    requires { 53 ≤ length message.now }
-    ensures { result ≡ flags_at message.now }
+fn read_flags(bytes: &[u8; 53]) -> Result<u8, ItemFault>
+    ensures { result ≡ flags_at bytes.now }
 {
     let fault = head_fault(48);
-    let flags = two_digits(&message[48..49], fault)?;
+    let flags = read_number(&bytes[48..49], fault)? as u8;
     demand(flags <= 7, fault)?;
     Ok(flags)
 }
 
-fn read_key(message: &[u8]) -> Result<[u8; 20], ItemFault>
-    requires { 53 ≤ length message.now }
-    ensures { result ≡ tested lawful_key message.now 16 20 }
+pub(crate) fn read_items(bytes: &[u8; 53]) -> Result<HeadItems, ItemFault>
+    ensures { result ≡ items_at bytes.now }
 {
-    let item = &message[16..36];
-    demand(is_lawful_key(item), head_fault(16))?;
-    let mut key = [0; 20];
-    key.copy_from_slice(item);
-    Ok(key)
-}
-
-fn read_language(message: &[u8]) -> Result<[u8; 2], ItemFault>
-    requires { 53 ≤ length message.now }
-    ensures { result ≡ tested lawful_language message.now 49 2 }
-{
-    let item = &message[49..51];
-    demand(is_lawful_language(item), head_fault(49))?;
-    let mut language = [0; 2];
-    language.copy_from_slice(item);
-    Ok(language)
-}
-
-fn read_second(message: &[u8]) -> Result<[u8; 2], ItemFault>
-    requires { 53 ≤ length message.now }
-    ensures { result ≡ tested lawful_second message.now 51 2 }
-{
-    let item = &message[51..53];
-    demand(is_lawful_second(item), head_fault(51))?;
-    let mut language = [0; 2];
-    language.copy_from_slice(item);
-    Ok(language)
-}
-
-pub(crate) fn read_items(message: &[u8]) -> Result<HeadItems, ItemFault>
-    requires { 53 ≤ length message.now }
-    ensures { result ≡ items_at message.now }
-{
-    let carrier = four_digits(&message[12..16], head_fault(12))?;
-    let key = read_key(message)?;
-    let edition = read_edition(message)?;
-    let flags = read_flags(message)?;
-    let language = read_language(message)?;
-    let second_language = read_second(message)?;
+    let carrier = read_number(&bytes[12..16], head_fault(12))? as u16;
+    let key = item_at(bytes, 16);
+    demand(is_lawful_key(&key), head_fault(16))?;
+    let edition = read_edition(bytes)?;
+    let flags = read_flags(bytes)?;
+    let language = item_at(bytes, 49);
+    demand(is_lawful_language(&language), head_fault(49))?;
+    let second_language = item_at(bytes, 51);
+    demand(is_lawful_second(&second_language), head_fault(51))?;
     Ok(HeadItems {
         carrier,
         key,

@@ -1,5 +1,5 @@
 -- Steps of a loop that reads fields.
-use Rattle.std.proofs.Common.{◌≡◌, ℕ, suc, ◌+◌, ◌-◌, List, ◌∷◌, Ok, Err, Option, Result, sym, refl, ap, ◌∙◌, arith}
+use Rattle.std.proofs.Common.{◌≡◌, ℕ, suc, ◌+◌, ◌-◌, List, ◌∷◌, length, Ok, Err, Option, Result, sym, refl, ap, ◌∙◌, arith}
 use Rattle.refusal.specs.Chain.{then}
 use Rattle.refusal.specs.declared.faults.SheetFault.{SheetFault}
 use Rattle.refusal.proofs.Chains.{ok_same}
@@ -26,13 +26,13 @@ module _ (f : ℕ → Option (List ℕ)) (m : List ℕ) (end : ℕ) where
   abbrev after : ℕ → ℕ → ℕ → ℕ → ReadField → Result (List ReadField) SheetFault
   after room j k place y = then (fields_at f m end (room - y.size) j (k + 1) (place + 13 + y.size)) (λ ys. Ok (y ∷ ys))
 
-  first_read : (b room j k place : ℕ) (x : FieldItems) (r : Result ReadField SheetFault) → ◌≡◌ {A = Result Shape SheetFault} (Ok (shape_of x)) (seen (shape_at place) r) → seen (behind (x.text_place + x.text_length) (b + x.text_length)) (fields_at f m end (room - x.text_length) j (k + 1) (x.text_place + x.text_length)) ≡ seen (behind place b) (then r (after room j k place))
+  first_read : (b room j k place : ℕ) (x : FieldItems) (r : Result ReadField SheetFault) → ◌≡◌ {A = Result Shape SheetFault} (Ok (shape_of x)) (seen (shape_at place) r) → seen (behind (x.text.place + length x.text.bytes.now) (b + length x.text.bytes.now)) (fields_at f m end (room - length x.text.bytes.now) j (k + 1) (x.text.place + length x.text.bytes.now)) ≡ seen (behind place b) (then r (after room j k place))
   first_read b room j k place x (Ok y) e =
       let same : shape_of x ≡ shape_at place y = ok_same (shape_of x) (shape_at place y) e in
-      let size : x.text_length ≡ y.size = ap (λ s. s.size) same in
-      let at : x.text_place ≡ place + 13 = ap (λ s. s.place) same in
-      let next : x.text_place + x.text_length ≡ place + 13 + y.size = omega arith in
-      ap (λ p. seen (behind p (b + x.text_length)) (fields_at f m end (room - x.text_length) j (k + 1) p)) next
+      let size : length x.text.bytes.now ≡ y.size = ap (λ s. s.size) same in
+      let at : x.text.place ≡ place + 13 = ap (λ s. s.place) same in
+      let next : x.text.place + length x.text.bytes.now ≡ place + 13 + y.size = omega arith in
+      ap (λ p. seen (behind p (b + length x.text.bytes.now)) (fields_at f m end (room - length x.text.bytes.now) j (k + 1) p)) next
       ∙ ap (λ s. seen (behind (place + 13 + y.size) (b + s)) (fields_at f m end (room - s) j (k + 1) (place + 13 + y.size))) size
       ∙ rest_behind place b y (fields_at f m end (room - y.size) j (k + 1) (place + 13 + y.size))
   first_read b room j k place x (Err e) h = let z : ◌≡◌ {A = ℕ} 0 1 = cc in absurd (omega arith)
@@ -41,7 +41,7 @@ module _ (f : ℕ → Option (List ℕ)) (m : List ℕ) (end : ℕ) where
   first_refused place g e (Ok y) next h = let z : ◌≡◌ {A = ℕ} 0 1 = cc in absurd (omega arith)
   first_refused place g e (Err d) next h = let q : e ≡ d = cc in ap Err q
 
-  pub fields_more : (b room n j k place : ℕ) (x : FieldItems) → n ≡ suc j → ◌≡◌ {A = Result Shape SheetFault} (Ok (shape_of x)) (seen (shape_at place) (field_at f m end room k place)) → seen (behind (x.text_place + x.text_length) (b + x.text_length)) (fields_at f m end (room - x.text_length) j (k + 1) (x.text_place + x.text_length)) ≡ seen (behind place b) (fields_at f m end room n k place)
+  pub fields_more : (b room n j k place : ℕ) (x : FieldItems) → n ≡ suc j → ◌≡◌ {A = Result Shape SheetFault} (Ok (shape_of x)) (seen (shape_at place) (field_at f m end room k place)) → seen (behind (x.text.place + length x.text.bytes.now) (b + length x.text.bytes.now)) (fields_at f m end (room - length x.text.bytes.now) j (k + 1) (x.text.place + length x.text.bytes.now)) ≡ seen (behind place b) (fields_at f m end room n k place)
   unfolding fields_at
   fields_more b room n j k place x more e =
       first_read b room j k place x (field_at f m end room k place) e ∙ ap (λ i. seen (behind place b) (fields_at f m end room i k place)) (sym more)

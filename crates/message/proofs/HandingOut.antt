@@ -16,14 +16,14 @@ use Rattle.record.specs.declared.start.RecordKind.TheVariants.{Layout}
 use Rattle.record.proofs.StartLaws.{start_told}
 use Rattle.text_code.specs.Spellings.{OneToFour, OfCharacters, PrefixFree}
 use Rattle.message.specs.Items.{Shape, seen, shape_of, shape_at}
-use Rattle.message.specs.Parts.{PartAt, HandedOut, TextAnswer, no_field, shape_in}
-use Rattle.message.specs.Rooms.{largest, room_of}
+use Rattle.message.specs.Parts.{StandsIn, HandedOut, TextAnswer, no_field, shape_in}
+use Rattle.ticket.specs.Rooms.{largest, room_of}
 use Rattle.message.specs.Summaries.{ticket_summary}
 use Rattle.message.specs.Totals.{behind, text_sizes, numbered_at}
 use Rattle.message.specs.declared.items.FieldItems.{FieldItems}
-use Rattle.message.specs.declared.parts.TextPart.{TextPart}
+use Rattle.message.specs.declared.part.Part.{Part}
 use Rattle.message.proofs.SummaryLaws.{length_layout}
-use Rattle.ticket.specs.Lawful.{Room}
+use Rattle.ticket.specs.declared.room.Room.{Room}
 use Rattle.ticket.specs.Reading.{ReadField, size_all, fields_of, count_at, field_at, fields_at, layout_to, carried_from, ticket_in}
 use Rattle.ticket.specs.Tickets.{Ticket, text_bytes, fields_bytes, layout_body}
 use Rattle.ticket.proofs.FieldLaws.{field_told, text_stands}
@@ -144,33 +144,30 @@ module _ (f : ℕ → Option (List ℕ)) (short : OneToFour f) (bounded : OfChar
         at = omega (arith, before.0.holds.ends);
       })
 
-  handed_out : (m : Bor (List ℕ)) (n : ℕ) (t : Ticket) (x : FieldItems) (p : TextPart) → TextStands m.now n t (shape_of x) → p.place ≡ x.text_place → PartAt m x.text_place (x.text_place + x.text_length) p.text → HandedOut f m n t p
-  handed_out m n t x p s e part =
-      let width : x.text_place + x.text_length - x.text_place ≡ x.text_length = omega arith in
-      let bytes : p.text.now ≡ text_bytes f s.field.characters = part.holds ∙ ap (λ k. take k (drop x.text_place m.now)) width ∙ s.bytes in
-      let size : length p.text.now ≡ x.text_length = ap length bytes ∙ s.size in
-      let stop : x.text_place + x.text_length ≡ x.text_place + length p.text.now = omega arith in
-      let taken : PartAt m x.text_place (x.text_place + length p.text.now) p.text = subst (λ b. PartAt m x.text_place b p.text) stop part in
+  handed_out : (m : Bor (List ℕ)) (n : ℕ) (t : Ticket) (x : FieldItems) → TextStands m.now n t (shape_of x) → StandsIn m x.text → HandedOut f m n t x.text
+  handed_out m n t x s taken =
+      let size : ℕ = length x.text.bytes.now in
+      let width : x.text.place + size - x.text.place ≡ size = omega arith in
       record {
         field = s.field;
         later = s.later;
         which = s.which;
-        bytes = bytes;
-        at = e ∙ s.at;
-        taken = subst (λ a. PartAt m a (a + length p.text.now) p.text) (sym e) taken;
+        bytes = taken.holds ∙ ap (λ k. take k (drop x.text.place m.now)) width ∙ s.bytes;
+        at = s.at;
+        taken = taken;
       }
 
   -- a field was found, and its text handed out
-  ticket_handed : (m : Bor (List ℕ)) (n : ℕ) (t : Ticket) (x : FieldItems) (p : TextPart) (some : Bool) → ltb n (length t.fields) ≡ some → Fields f m.now 7000 t (65 + length (layout_body f t.fields)) → ◌≡◌ {A = Result Shape SheetFault} (Ok (shape_of x)) (then (demand some (no_field n)) (λ _. numbered_at f m.now (65 + length (layout_body f t.fields)) 7000 n)) → p.place ≡ x.text_place → PartAt m x.text_place (x.text_place + x.text_length) p.text → HandedOut f m n t p
-  ticket_handed m n t x p true b r e place part = handed_out m n t x p (found 7000 m.now n t (shape_of x) (ltb-true n (length t.fields) b) r e) place part
-  ticket_handed m n t x p false b r e place part = let z : ◌≡◌ {A = ℕ} 0 1 = cc in absurd (omega arith)
+  ticket_handed : (m : Bor (List ℕ)) (n : ℕ) (t : Ticket) (x : FieldItems) (some : Bool) → ltb n (length t.fields) ≡ some → Fields f m.now 7000 t (65 + length (layout_body f t.fields)) → ◌≡◌ {A = Result Shape SheetFault} (Ok (shape_of x)) (then (demand some (no_field n)) (λ _. numbered_at f m.now (65 + length (layout_body f t.fields)) 7000 n)) → StandsIn m x.text → HandedOut f m n t x.text
+  ticket_handed m n t x true b r e taken = handed_out m n t x (found 7000 m.now n t (shape_of x) (ltb-true n (length t.fields) b) r e) taken
+  ticket_handed m n t x false b r e taken = let z : ◌≡◌ {A = ℕ} 0 1 = cc in absurd (omega arith)
 
-  message_handed : (m : Bor (List ℕ)) (n : ℕ) (x : FieldItems) (p : TextPart) (q : Result Ticket SheetFault) → ticket_in f (room_of largest) m.now ≡ q → ◌≡◌ {A = Result Shape SheetFault} (Ok (shape_of x)) (then (seen (ticket_summary f) q) (λ s. then (demand (ltb n s.needs.fields) (no_field n)) (λ _. numbered_at f m.now s.end 7000 n))) → p.place ≡ x.text_place → PartAt m x.text_place (x.text_place + x.text_length) p.text → TextAnswer f m n q (Ok p)
-  message_handed m n x p (Ok t) told e place part = ticket_handed m n t x p (ltb n (length t.fields)) refl (ticket_fields (room_of largest) m.now t told) e place part
-  message_handed m n x p (Err fault) told e place part = let z : ◌≡◌ {A = ℕ} 0 1 = cc in absurd (omega arith)
+  message_handed : (m : Bor (List ℕ)) (n : ℕ) (x : FieldItems) (q : Result Ticket SheetFault) → ticket_in f (room_of largest) m.now ≡ q → ◌≡◌ {A = Result Shape SheetFault} (Ok (shape_of x)) (then (seen (ticket_summary f) q) (λ s. then (demand (ltb n s.needs.fields) (no_field n)) (λ _. numbered_at f m.now s.end 7000 n))) → StandsIn m x.text → TextAnswer f m n q (Ok x.text)
+  message_handed m n x (Ok t) told e taken = ticket_handed m n t x (ltb n (length t.fields)) refl (ticket_fields (room_of largest) m.now t told) e taken
+  message_handed m n x (Err fault) told e taken = let z : ◌≡◌ {A = ℕ} 0 1 = cc in absurd (omega arith)
 
-  pub text_handed : (m : Bor (List ℕ)) (n : ℕ) (x : FieldItems) (p : TextPart) → ◌≡◌ {A = Result Shape SheetFault} (Ok (shape_of x)) (shape_in f m.now n) → p.place ≡ x.text_place → PartAt m x.text_place (x.text_place + x.text_length) p.text → TextAnswer f m n (ticket_in f (room_of largest) m.now) (Ok p)
-  text_handed m n x p e place part = message_handed m n x p (ticket_in f (room_of largest) m.now) refl e place part
+  pub text_handed : (m : Bor (List ℕ)) (n : ℕ) (x : FieldItems) → ◌≡◌ {A = Result Shape SheetFault} (Ok (shape_of x)) (shape_in f m.now n) → StandsIn m x.text → TextAnswer f m n (ticket_in f (room_of largest) m.now) (Ok x.text)
+  text_handed m n x e taken = message_handed m n x (ticket_in f (room_of largest) m.now) refl e taken
 
   -- no field was found
   ticket_refused : (m : Bor (List ℕ)) (n : ℕ) (t : Ticket) (fault : SheetFault) (some : Bool) → ltb n (length t.fields) ≡ some → Fields f m.now 7000 t (65 + length (layout_body f t.fields)) → ◌≡◌ {A = Result Shape SheetFault} (Err fault) (then (demand some (no_field n)) (λ _. numbered_at f m.now (65 + length (layout_body f t.fields)) 7000 n)) → (length t.fields ≤ n) × (fault ≡ no_field n)
@@ -187,5 +184,5 @@ module _ (f : ℕ → Option (List ℕ)) (short : OneToFour f) (bounded : OfChar
   message_refused m n fault (Ok t) told e = ticket_refused m n t fault (ltb n (length t.fields)) refl (ticket_fields (room_of largest) m.now t told) e
   message_refused m n fault (Err other) told e = let q : fault ≡ other = cc in ap Err q
 
-  pub text_refused : (m : Bor (List ℕ)) (n : ℕ) (fault : SheetFault) (r : Result TextPart SheetFault) → ◌≡◌ {A = Result Shape SheetFault} (Err fault) (shape_in f m.now n) → r ≡ Err fault → TextAnswer f m n (ticket_in f (room_of largest) m.now) r
+  pub text_refused : (m : Bor (List ℕ)) (n : ℕ) (fault : SheetFault) (r : Result Part SheetFault) → ◌≡◌ {A = Result Shape SheetFault} (Err fault) (shape_in f m.now n) → r ≡ Err fault → TextAnswer f m n (ticket_in f (room_of largest) m.now) r
   text_refused m n fault r e is = subst (TextAnswer f m n (ticket_in f (room_of largest) m.now)) (sym is) (message_refused m n fault (ticket_in f (room_of largest) m.now) refl e)

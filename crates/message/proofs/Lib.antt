@@ -1,4 +1,3 @@
-pub mod Checked
 pub mod FieldSteps
 pub mod CarriedSteps
 pub mod SummaryLaws

@@ -19,7 +19,8 @@ use Rattle.text_code.specs.Spellings.{OneToFour, OfCharacters, PrefixFree}
 use Rattle.message.specs.Items.{seen}
 use Rattle.message.specs.Summaries.{Summary, summary_in, ticket_summary}
 use Rattle.message.specs.Totals.{behind, text_sizes, total}
-use Rattle.ticket.specs.Lawful.{Room, text_total, body_total}
+use Rattle.ticket.specs.Lawful.{text_total, body_total}
+use Rattle.ticket.specs.declared.room.Room.{Room}
 use Rattle.ticket.specs.Reading.{ReadField, size_all, fields_of, count_at, fields_at, layout_to, carried_from, ticket_in}
 use Rattle.ticket.specs.Tickets.{CarriedRecord, Ticket, field_bytes, fields_bytes, layout_body}
 use Rattle.ticket.proofs.FieldLaws.{length_field}

@@ -1,8 +1,7 @@
 -- The items of a field and of a carried record, as a reader tells them.
-use Rattle.std.specs.Prelude.{ℕ, ◌+◌, List, Ok, Err, Result}
+use Rattle.std.specs.Prelude.{ℕ, ◌+◌, length, Ok, Err, Result}
 use Rattle.field.specs.Areas.{Area, area_of}
 use Rattle.field.specs.declared.formatting.Formatting.{Formatting}
-use Rattle.octets.specs.Bytes.{part}
 use Rattle.message.specs.declared.items.FieldItems.{FieldItems}
 use Rattle.message.specs.declared.items.CarriedItems.{CarriedItems}
 use Rattle.ticket.specs.Tickets.{CarriedRecord}
@@ -21,7 +20,7 @@ pub record Shape : Type 0 where
   pub size : ℕ
 
 abbrev pub shape_of : FieldItems → Shape
-shape_of x = record { area = area_of x.rectangle; formatting = x.formatting.value; place = x.text_place; size = x.text_length }
+shape_of x = record { area = area_of x.rectangle; formatting = x.formatting.value; place = x.text.place; size = length x.text.bytes.now }
 
 -- a field that begins at a place: its text stands behind its other items' 13 bytes
 abbrev pub shape_at : ℕ → ReadField → Shape
@@ -30,6 +29,5 @@ shape_at place x = record { area = x.field.area; formatting = x.field.formatting
 abbrev pub formatting_value : Formatting → ℕ
 formatting_value x = x.value
 
--- a carried record whose body stands in the message
-abbrev pub carried_of : List ℕ → CarriedItems → CarriedRecord
-carried_of m x = record { id = x.id; version = x.version; body = part m x.body_place x.body_length }
+abbrev pub carried_of : CarriedItems → CarriedRecord
+carried_of x = record { id = x.id; version = x.version; body = x.body.bytes.now }

@@ -1,4 +1,3 @@
-pub mod Rooms
 pub mod Items
 pub mod Texts
 pub mod Totals

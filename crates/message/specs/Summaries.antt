@@ -12,7 +12,8 @@ use Rattle.record.specs.declared.start.RecordKind.TheVariants.{Layout}
 use Rattle.message.specs.Items.{seen}
 use Rattle.message.specs.Totals.{behind, total}
 use Rattle.message.specs.declared.contents.Contents.{Contents}
-use Rattle.ticket.specs.Lawful.{Room, needs}
+use Rattle.ticket.specs.Lawful.{needs}
+use Rattle.ticket.specs.declared.room.Room.{Room}
 use Rattle.ticket.specs.Reading.{count_at, fields_at, carried_from}
 use Rattle.ticket.specs.Tickets.{Ticket, layout_body}
 
@@ -23,12 +24,7 @@ pub record Summary : Type 0 where
   pub end : ℕ
 
 abbrev pub summary_of : Contents → Summary
-summary_of x =
-    record {
-      head = x.head.items;
-      needs = record { fields = x.fields; texts = x.text_bytes; carried = x.carried_records; bodies = x.carried_bytes };
-      end = x.layout_end;
-    }
+summary_of x = record { head = x.head.items; needs = x.needs; end = x.layout_end }
 
 -- the layout's body begins at place 65
 abbrev pub ticket_summary : (ℕ → Option (List ℕ)) → Ticket → Summary

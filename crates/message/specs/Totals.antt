@@ -1,15 +1,12 @@
 -- Counting what a message holds.
-use Rattle.std.specs.Prelude.{ℕ, ◌+◌, ◌-◌, List, [], ◌∷◌, length, Option, Result, nat_le}
-use Rattle.refusal.specs.Chain.{then, demand}
-use Rattle.refusal.specs.declared.causes.SheetCause.TheVariants.{TooManyEntries}
+use Rattle.std.specs.Prelude.{ℕ, ◌+◌, ◌-◌, List, [], ◌∷◌, length, Option, Result}
+use Rattle.refusal.specs.Chain.{then}
 use Rattle.refusal.specs.declared.faults.SheetFault.{SheetFault}
-use Rattle.refusal.specs.declared.faults.SheetFault.TheVariants.{Own}
-use Rattle.record.specs.Start.{in_record}
 use Rattle.message.specs.Items.{Shape, seen, shape_at}
 use Rattle.message.specs.declared.items.CarriedTotal.{CarriedTotal}
 use Rattle.message.specs.declared.items.FieldsTotal.{FieldsTotal}
 use Rattle.ticket.specs.Lawful.{body_total}
-use Rattle.ticket.specs.Reading.{ReadField, size_all, field_at, fields_at, carried_at}
+use Rattle.ticket.specs.Reading.{ReadField, size_all, field_at, fields_at}
 use Rattle.ticket.specs.Tickets.{CarriedRecord}
 
 abbrev pub text_sizes : List ReadField → ℕ
@@ -29,7 +26,3 @@ numbered_at f m end room n =
 -- carried records behind others
 abbrev pub total : ℕ → ℕ → List CarriedRecord → CarriedTotal
 total records bytes rs = record { records = records + length rs; bytes = bytes + body_total rs }
-
--- the next carried record, where there is room for some more of them
-abbrev pub next_at : List ℕ → ℕ → ℕ → ℕ → ℕ → Result CarriedRecord SheetFault
-next_at m more room k place = then (demand (nat_le 1 more) (Own TooManyEntries (in_record k place))) (λ _. carried_at m room k place)

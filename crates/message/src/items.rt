@@ -1,21 +1,20 @@
+use super::part::Part;
 use field::{Formatting, Rectangle};
 
-/// The items of a field, and where its text stands in the message.
+/// The items of a field, its text as a part of the message.
 #[derive(Clone, Copy)]
-pub struct FieldItems {
+pub struct FieldItems<'m> {
     pub rectangle: Rectangle,
     pub formatting: Formatting,
-    pub text_place: usize,
-    pub text_length: usize,
+    pub text: Part<'m>,
 }
 
-/// The items of a carried record, and where its body stands in the message.
+/// The items of a carried record, its body as a part of the message.
 #[derive(Clone, Copy)]
-pub struct CarriedItems {
+pub struct CarriedItems<'m> {
     pub id: [u8; 6],
     pub version: [u8; 2],
-    pub body_place: usize,
-    pub body_length: usize,
+    pub body: Part<'m>,
 }
 
 /// The place behind some fields, and how many bytes their texts have together.
@@ -26,6 +25,7 @@ pub(crate) struct FieldsTotal {
 }
 
 /// How many carried records there are, and how many bytes their bodies have together.
+// Not one type with the fields' total: there the place behind them is told, here their number.
 #[derive(Clone, Copy)]
 pub(crate) struct CarriedTotal {
     pub(crate) records: usize,

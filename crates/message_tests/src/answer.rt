@@ -1,17 +1,21 @@
 use super::case::{Case, Code};
-use super::second_pass::agrees;
+use super::parts::Parts;
 use super::writing_back::writes_back;
-use message::{Contents, Limits, read_message};
+use message::{Contents, read_message};
 use refusal::Refusal;
 use std::io;
 use text_code::{Latin1, ReadingCode, Utf8};
+use ticket::Room;
 
+// lines of this program alone, so no Display of the library's types
 fn print_contents(rt: &HostRuntime, contents: &Contents) -> io::Result<()> {
-    let fields = contents.fields;
-    let text_bytes = contents.text_bytes;
-    let records = contents.carried_records;
-    let bytes = contents.carried_bytes;
-    println!(rt; "ok fields {fields} text {text_bytes} carried {records} bodies {bytes}")
+    let Room {
+        fields,
+        texts,
+        carried,
+        bodies,
+    } = contents.needs;
+    println!(rt; "ok fields {fields} text {texts} carried {carried} bodies {bodies}")
 }
 
 /// All five figures; a refusal's own line has three of them.
@@ -30,29 +34,29 @@ fn print_reading<C: ReadingCode>(
     rt: &HostRuntime,
     message: &[u8],
     code: &C,
-    limits: Limits,
+    room: Room,
 ) -> io::Result<()> {
-    match read_message(message, code, limits) {
-        Ok(contents) => {
-            print_contents(rt, &contents)?;
-            if !agrees(message, code, &contents) {
-                println!(rt; "pass two disagrees")?;
-            }
-            if !writes_back(rt.alloc(), message, code, &contents)? {
-                println!(rt; "written otherwise")?;
-            }
-            Ok(())
-        }
-        Err(fault) => print_refusal(rt, fault.figures()),
+    let contents = match read_message(message, code, room) {
+        Ok(contents) => contents,
+        Err(fault) => return print_refusal(rt, Refusal::from(fault)),
+    };
+    print_contents(rt, &contents)?;
+    let Some(parts) = Parts::read(rt.alloc(), message, code, &contents)? else {
+        return println!(rt; "pass two disagrees");
+    };
+    if !writes_back(rt.alloc(), message, &contents, &parts)? {
+        println!(rt; "written otherwise")?;
     }
+    Ok(())
 }
 
-/// What reading the case's message answers, and a line more where reading it part by part does not agree, and where
-/// it is written otherwise from its parts.
+/// What reading the case's message answers, and a line more where reading it part by part does not agree, or where it
+/// is written otherwise from its parts.
 pub(crate) fn print_answer(rt: &HostRuntime, case: &Case) -> io::Result<()> {
     let message = case.message.as_slice();
+    // one arm for each code: its type is chosen when the program is built
     match case.code {
-        Code::Utf8 => print_reading(rt, message, &Utf8, case.limits),
-        Code::Latin1 => print_reading(rt, message, &Latin1, case.limits),
+        Code::Utf8 => print_reading(rt, message, &Utf8, case.room),
+        Code::Latin1 => print_reading(rt, message, &Latin1, case.room),
     }
 }

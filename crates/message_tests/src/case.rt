@@ -1,8 +1,7 @@
-ghost use Rattle.std.specs.Prelude.{◌<◌, IfOk};
-
 use anyhow::anyhow;
-use message::Limits;
 use std::alloc::Global;
+use std::str::FromStr;
+use ticket::Room;
 
 #[derive(Clone, Copy)]
 pub(crate) enum Code {
@@ -10,45 +9,35 @@ pub(crate) enum Code {
     Latin1,
 }
 
+impl FromStr for Code {
+    type Err = anyhow::Error;
+
+    fn from_str(word: &str) -> anyhow::Result<Code> {
+        match word {
+            "utf8" => Ok(Code::Utf8),
+            "latin1" => Ok(Code::Latin1),
+            _ => Err(anyhow!("no such text code")),
+        }
+    }
+}
+
 /// A message, the text code to read it in, and the room for what it holds.
 #[derive(Drop)]
 pub(crate) struct Case {
     pub(crate) code: Code,
-    pub(crate) limits: Limits,
+    pub(crate) room: Room,
     pub(crate) message: Vec<u8>,
 }
 
-fn parse_code(word: &str) -> anyhow::Result<Code> {
-    match word {
-        "utf8" => Ok(Code::Utf8),
-        "latin1" => Ok(Code::Latin1),
-        _ => Err(anyhow!("no such text code")),
-    }
-}
-
-fn parse_digit(digit: u8) -> anyhow::Result<u8>
-    ensures { IfOk result (λ d. d < 16) }
-{
-    match digit {
-        b'0'..=b'9' => Ok(digit - b'0'),
-        b'a'..=b'f' => Ok(digit - b'a' + 10),
-        _ => Err(anyhow!("no hexadecimal digit")),
-    }
-}
-
-/// The bytes of a message in hexadecimal, `-` for an empty one.
+/// The bytes of a message in hexadecimal of small letters, `-` for an empty one.
 fn parse_message(heap: Global, word: &str) -> anyhow::Result<Vec<u8>> {
-    let mut message = Vec::new(heap);
     if word == "-" {
-        return Ok(message);
+        return Ok(Vec::new(heap));
     }
-    for pair in word.as_bytes().chunks(2) {
-        let [high, low] = pair else {
-            return Err(anyhow!("half a byte"));
-        };
-        message.push(parse_digit(*high)? * 16 + parse_digit(*low)?)?;
+    if word.bytes().any(|byte| byte.is_ascii_uppercase()) {
+        return Err(anyhow!("no hexadecimal digit"));
     }
-    Ok(message)
+    Ok(hex::decode(heap, word)?)
 }
 
 impl Case {
@@ -56,24 +45,16 @@ impl Case {
     /// the message.
     pub(crate) fn parse(heap: Global, line: &str) -> anyhow::Result<Case> {
         let words: Vec<&str> = line.split_whitespace().collect(heap)?;
-        let [
-            code,
-            fields,
-            text_bytes,
-            carried_records,
-            carried_bytes,
-            message,
-        ] = words.as_slice()
-        else {
+        let [code, fields, texts, carried, bodies, message] = words.as_slice() else {
             return Err(anyhow!("a case has six words"));
         };
         Ok(Case {
-            code: parse_code(code)?,
-            limits: Limits {
+            code: code.parse::<Code>()?,
+            room: Room {
                 fields: fields.parse::<usize>()?,
-                text_bytes: text_bytes.parse::<usize>()?,
-                carried_records: carried_records.parse::<usize>()?,
-                carried_bytes: carried_bytes.parse::<usize>()?,
+                texts: texts.parse::<usize>()?,
+                carried: carried.parse::<usize>()?,
+                bodies: bodies.parse::<usize>()?,
             },
             message: parse_message(heap, message)?,
         })

@@ -3,7 +3,7 @@
 
 mod answer;
 mod case;
-mod second_pass;
+mod parts;
 mod writing_back;
 
 use answer::print_answer;

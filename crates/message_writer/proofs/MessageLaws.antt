@@ -9,7 +9,8 @@ use Rattle.head.specs.Writing.{over}
 use Rattle.head.specs.declared.items.HeadItems.{HeadItems}
 use Rattle.head.proofs.HeadLaws.{length-encode}
 use Rattle.lists.specs.Laying.{laid}
-use Rattle.ticket.specs.Lawful.{Lawful, LawfulCarried, Room, body_total, needs, text_total}
+use Rattle.ticket.specs.Lawful.{Lawful, LawfulCarried, body_total, needs, text_total}
+use Rattle.ticket.specs.declared.room.Room.{Room}
 use Rattle.ticket.specs.Tickets.{CarriedRecord, Ticket, carried_bytes, encode, field_bytes, fields_bytes, layout_body, record_bytes, text_bytes}
 use Rattle.ticket.proofs.FieldLaws.{length_field}
 use Rattle.message_writer.specs.Parts.{joined, layout_start}

@@ -29,7 +29,3 @@ after (Err fault) was place bytes = was
 abbrev pub laid_in_turn : List ℕ → ℕ → List (List ℕ) → List ℕ
 laid_in_turn was place [] = was
 laid_in_turn was place (item ∷ items) = laid_in_turn (laid was place item) (place + length item) items
-
-abbrev pub after_items : Result ℕ SheetFault → List ℕ → ℕ → List (List ℕ) → List ℕ
-after_items (Ok size) was place items = laid_in_turn was place items
-after_items (Err fault) was place items = was

@@ -3,7 +3,8 @@ use Rattle.std.specs.Prelude.{◌≡◌, ℕ, ◌+◌, ◌*◌, ◌≤◌, List,
 use Rattle.std.specs.List.{AllByRecursion}
 use Rattle.field.specs.Fields.{Field}
 use Rattle.head.specs.Writing.{over}
-use Rattle.ticket.specs.Lawful.{Lawful, Room, needs}
+use Rattle.ticket.specs.Lawful.{Lawful, needs}
+use Rattle.ticket.specs.declared.room.Room.{Room}
 use Rattle.ticket.specs.Tickets.{CarriedRecord, Ticket, encode, field_bytes, layout_body, record_bytes, text_bytes}
 use Rattle.message_writer.specs.Parts.{joined, layout_start}
 use Rattle.message_writer.specs.Layings.{laid_in_turn}

@@ -8,12 +8,7 @@ use refusal::{SheetCause, SheetFault, Site, demand};
 fn fault_of(cause: SheetCause) -> SheetFault
     ensures { result ≡ Own cause (in_record 0 0) }
 {
-    let site = Site {
-        record: 0,
-        field: 0,
-        place: 0,
-    };
-    SheetFault::Own(cause, site)
+    SheetFault::Own(cause, Site::in_record(0, 0))
 }
 
 /// Four digits write the number.

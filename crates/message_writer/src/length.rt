@@ -1,32 +1,19 @@
 ghost use Rattle.std.specs.Prelude.{◌≡◌, ◌-◌, ◌^◌, min};
 ghost use Rattle.message_writer.specs.Messages.{LengthOfMessage, PartsAreMessage, message_length};
 
-fn length_of(
-    fields: usize,
-    text_bytes: usize,
-    carried_records: usize,
-    carried_bytes: usize,
-) -> usize
-    ensures { result ≡ min (message_length (record { fields = fields; texts = text_bytes; carried = carried_records; bodies = carried_bytes })) (2 ^ 64 - 1) }
-{
-    let layout = fields.saturating_mul(13).saturating_add(text_bytes);
-    let carried = carried_records
-        .saturating_mul(12)
-        .saturating_add(carried_bytes);
-    layout.saturating_add(carried).saturating_add(73)
-}
+use ticket::Room;
 
-/// The length of the message of a ticket with so many fields, bytes of their texts, carried records and bytes of their
-/// bodies. It is `usize::MAX` where it would be larger; no lawful ticket is so long.
-pub fn message_length(
-    fields: usize,
-    text_bytes: usize,
-    carried_records: usize,
-    carried_bytes: usize,
-) -> usize
-    ensures value { result ≡ min (message_length (record { fields = fields; texts = text_bytes; carried = carried_records; bodies = carried_bytes })) (2 ^ 64 - 1) }
-    ensures length { LengthOfMessage (record { fields = fields; texts = text_bytes; carried = carried_records; bodies = carried_bytes }) result }
-    ensures parts { PartsAreMessage (record { fields = fields; texts = text_bytes; carried = carried_records; bodies = carried_bytes }) result }
+/// The length of the message of a ticket that needs so much room. It is `usize::MAX` where it would be larger; no
+/// lawful ticket is so long.
+pub fn message_length(needs: Room) -> usize
+    ensures value { result ≡ min (message_length needs) (2 ^ 64 - 1) }
+    ensures length { LengthOfMessage needs result }
+    ensures parts { PartsAreMessage needs result }
 {
-    length_of(fields, text_bytes, carried_records, carried_bytes)
+    let layout = needs.fields.saturating_mul(13).saturating_add(needs.texts);
+    let carried = needs
+        .carried
+        .saturating_mul(12)
+        .saturating_add(needs.bodies);
+    layout.saturating_add(carried).saturating_add(73)
 }

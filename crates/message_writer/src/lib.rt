@@ -4,7 +4,6 @@
 
 mod carried;
 mod checks;
-mod items;
 mod layout;
 mod length;
 

@@ -1,4 +1,3 @@
-pub mod Tests
 pub mod DigitLaws
 pub mod PartLaws
 pub mod Numerals

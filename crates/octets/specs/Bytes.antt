@@ -1,5 +1,5 @@
 -- Bytes, and parts of a message.
-use Rattle.std.specs.Prelude.{ℕ, Bool, true, ◌&&◌, List, [], ◌∷◌, take, drop, nat_le}
+use Rattle.std.specs.Prelude.{ℕ, Bool, ◌&&◌, List, take, drop, nat_le}
 
 -- the n bytes of m from a place on
 abbrev pub part : List ℕ → ℕ → ℕ → List ℕ
@@ -13,7 +13,3 @@ is_digit b = within 48 57 b
 
 abbrev pub is_printable : ℕ → Bool
 is_printable b = within 32 126 b
-
-abbrev pub every : (ℕ → Bool) → List ℕ → Bool
-every test [] = true
-every test (b ∷ bs) = test b && every test bs

@@ -33,8 +33,18 @@ pub fn write_number(item: &mut [u8], number: u32)
     ensures { item.new ≡ digits (length item.old) number }
 {
     let mut rest = number;
+    // by index: nothing is known of the elements behind a slice's iter_mut
     for i in (0..item.len()).rev() {
         item[i] = b'0' + (rest % 10) as u8;
         rest /= 10;
     }
+}
+
+/// The last digits of a number, as many as the array has places, zeros before them.
+pub fn number_digits<const WIDTH: usize>(number: u32) -> [u8; WIDTH]
+    ensures { result ≡ digits WIDTH number }
+{
+    let mut item = [b'0'; WIDTH];
+    write_number(&mut item, number);
+    item
 }

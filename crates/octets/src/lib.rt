@@ -1,8 +1,8 @@
-//! Bytes of a message: what they are compared with, and numbers in digits.
+//! Bytes of a message: the range that they lie in, and numbers in digits.
 #![tactic(auto)]
 
 mod compare;
 mod digits;
 
-pub use compare::{all_within, same_bytes};
-pub use digits::{read_number, write_number};
+pub use compare::all_within;
+pub use digits::{number_digits, read_number, write_number};

@@ -1,6 +1,6 @@
 pub mod Cells
+pub mod Sizes
 pub mod Pages
+pub mod Memories
 pub mod Grids
 pub mod Offsets
-pub mod Fitting
-pub mod Places

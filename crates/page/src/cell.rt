@@ -1,28 +1,28 @@
 ghost use Rattle.std.specs.Prelude.{◌≡◌};
-ghost use Rattle.page.specs.Cells.{blank, lawful_cell, shown};
+ghost use Rattle.page.specs.Cells.{blank, lawful_cell};
+ghost use Rattle.page.specs.Sizes.{fitting_size, inside};
 
 /// What one cell of a page shows: a character up to 1,114,111, and a formatting up to 7.
-#[derive(Clone, Copy)]
+// numbers, and no types of lawful values alone: a page has to turn the others down
+#[derive(Clone, Copy, PartialEq, Eq, Debug)]
 pub struct Cell {
     pub character: u32,
     pub formatting: u8,
 }
 
 /// A number of lines and a number of columns.
-#[derive(Clone, Copy)]
+#[derive(Clone, Copy, PartialEq, Eq, Default, Debug)]
 pub struct Size {
     pub lines: usize,
     pub columns: usize,
 }
 
-/// The answer to placing a cell.
-#[derive(Clone, Copy)]
-pub enum Placed {
-    /// The cell shows what was placed.
-    Set,
-    /// There is no such cell on the page: no cell changed.
+/// Why a cell was not placed: no cell changed.
+#[derive(Clone, Copy, PartialEq, Eq, Debug)]
+pub enum PlaceError {
+    /// There is no such cell on the page.
     Outside,
-    /// The character or the formatting is beyond its limit: no cell changed.
+    /// The character or the formatting is beyond its limit.
     Unlawful,
 }
 
@@ -43,15 +43,24 @@ impl Cell {
     {
         self.character <= 1_114_111 && self.formatting <= 7
     }
+}
 
-    /// The cell where it is lawful, else a blank.
-    pub(crate) fn or_blank(self) -> Cell
-        ensures value { result ≡ shown self }
+impl Size {
+    /// Whether a page of this size has a cell there.
+    pub(crate) fn contains(self, line: usize, column: usize) -> bool
+        ensures answer { result ≡ inside self line column }
     {
-        if self.is_lawful() {
+        line < self.lines && column < self.columns
+    }
+
+    /// This size, if it is within the limits and has no more than so many cells, else 0 lines and 0 columns.
+    pub(crate) fn fitting(self, room: usize) -> Size
+        ensures value { result ≡ fitting_size self.lines self.columns room }
+    {
+        if self.lines <= 1000 && self.columns <= 1000 && self.lines * self.columns <= room {
             self
         } else {
-            Cell::blank()
+            Size::default()
         }
     }
 }

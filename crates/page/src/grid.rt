@@ -1,19 +1,21 @@
-ghost use Rattle.std.specs.Prelude.{◌≡◌, ℕ, ◌+◌, ◌*◌, ◌<◌, ◌≤◌, min, length, IfSome};
-ghost use Rattle.page.specs.Cells.{blank};
-ghost use Rattle.page.specs.Grids.{AllBlank, grid_cells, grid_index, grid_size, fitting_size, index_in, packed_room, packed_stored, planar_room, planar_stored};
-ghost use Rattle.std.proofs.Common.{arith, rules};
-ghost use Rattle.page.specs.Fitting.{fitting_lines, fitting_columns};
-ghost use Rattle.page.specs.Places.{shown_lawful};
+ghost use Rattle.std.specs.Prelude.{◌≡◌, ℕ, ◌*◌, ◌<◌, ◌≤◌, true, min, length, IfSome};
+ghost use Rattle.page.specs.Cells.{blank, lawful_cell};
+ghost use Rattle.page.specs.Sizes.{fitting_size, index_in};
+ghost use Rattle.page.specs.Memories.{packed_stored, planar_stored};
 
-use super::cell::{Cell, Placed, Size};
+use super::cell::{Cell, PlaceError, Size};
 use super::memory::{CellMemory, PackedCells, PlanarCells};
 use super::page::Page;
 
 /// A page over lent memory, whose cells stand line by line.
 #[derive(Drop)]
-pub struct Grid<M> {
+pub struct Grid<M: CellMemory> {
     memory: M,
     size: Size,
+    ghost lines_limit: { size.lines ≤ 1000 },
+    ghost columns_limit: { size.columns ≤ 1000 },
+    ghost has_room: { size.lines * size.columns ≤ M.CellMemory.room memory },
+    ghost all_lawful: { (k : ℕ) → k < size.lines * size.columns → lawful_cell (M.CellMemory.stored memory k) ≡ true },
 }
 
 /// A page that takes one word for a cell.
@@ -22,82 +24,59 @@ pub type PackedPage<'a> = Grid<PackedCells<'a>>;
 /// A page with its characters in one memory and its formattings in another.
 pub type PlanarPage<'a> = Grid<PlanarCells<'a>>;
 
-/// The size of a page that has room for so many cells: both 0 where it does not fit.
-fn fitting(lines: usize, columns: usize, room: usize) -> Size
-    ensures value { result ≡ fitting_size lines columns room }
-{
-    if lines <= 1000 && columns <= 1000 && lines * columns <= room {
-        Size { lines, columns }
-    } else {
-        Size {
-            lines: 0,
-            columns: 0,
-        }
-    }
-}
-
-/// Where a cell of a page of that size stands in its memory, or nothing outside the page.
-fn index_in(size: Size, line: usize, column: usize) -> Option<usize>
-    requires lines { size.lines ≤ 1000 }
-    requires columns { size.columns ≤ 1000 }
-    ensures answer { result ≡ index_in size line column }
-{
-    if line < size.lines && column < size.columns {
-        Some(line * size.columns + column)
-    } else {
-        None
-    }
-}
-
 /// Stores a blank at each index below a count.
 fn store_blanks<M: CellMemory>(memory: &mut M, count: usize)
     requires { count ≤ M.CellMemory.room memory.old }
     ensures cells { (k : ℕ) → k < count → M.CellMemory.stored memory.new k ≡ blank }
     ensures room { M.CellMemory.room memory.new ≡ M.CellMemory.room memory.old }
 {
+    // by index: nothing else is known of a memory of any make
     for index in 0..count {
         memory.store(index, Cell::blank());
     }
 }
 
 impl<M: CellMemory> Grid<M> {
+    ghost use Rattle.page.specs.Grids.{AllBlank};
+
     /// A page of blanks, whatever the memory held.
-    fn of_blanks(lines: usize, columns: usize, mut memory: M) -> Grid<M>
-        ensures size { grid_size M.CellMemory.room result ≡ fitting_size lines columns (M.CellMemory.room memory) }
-        ensures cells { AllBlank M.CellMemory.room M.CellMemory.stored result }
+    fn of_blanks(size: Size, mut memory: M) -> Grid<M>
+        ensures size { result.size ≡ fitting_size size.lines size.columns (M.CellMemory.room memory) }
+        ensures cells { AllBlank M.CellMemory.stored result }
     {
-        let size = fitting(lines, columns, memory.room());
+        let size = size.fitting(memory.room());
         store_blanks(&mut memory, size.lines * size.columns);
         Grid { memory, size }
     }
 
-    /// The size, as far as the memory has room for it.
-    fn fitted(&self) -> Size
-        ensures value { result ≡ fitting_size self.now.size.lines self.now.size.columns (M.CellMemory.room self.now.memory) }
-    {
-        fitting(self.size.lines, self.size.columns, self.memory.room())
-    }
-
     /// Where a cell stands in the memory, or nothing outside the page.
     fn index_of(&self, line: usize, column: usize) -> Option<usize>
-        ensures answer { result ≡ grid_index M.CellMemory.room self.now line column }
+        ensures answer { result ≡ index_in self.now.size line column }
         ensures within { IfSome result (λ index. index < M.CellMemory.room self.now.memory) }
     {
-        index_in(self.fitted(), line, column)
+        if self.size.contains(line, column) {
+            Some(line * self.size.columns + column)
+        } else {
+            None
+        }
     }
 }
 
 impl<'a> Grid<PackedCells<'a>> {
+    ghost use Rattle.page.specs.Grids.{AllBlank};
+
     /// A page of blanks. Both sizes are 0 where one is over 1,000 or the memory is too short.
     pub fn new(lines: usize, columns: usize, words: &'a mut [u32]) -> Grid<PackedCells<'a>>
-        ensures size { grid_size packed_room result ≡ fitting_size lines columns (length words.old) }
-        ensures cells { AllBlank packed_room packed_stored result }
+        ensures size { result.size ≡ fitting_size lines columns (length words.old) }
+        ensures cells { AllBlank packed_stored result }
     {
-        Grid::of_blanks(lines, columns, PackedCells { words })
+        Grid::of_blanks(Size { lines, columns }, PackedCells { words })
     }
 }
 
 impl<'a> Grid<PlanarCells<'a>> {
+    ghost use Rattle.page.specs.Grids.{AllBlank};
+
     /// A page of blanks. Both sizes are 0 where one is over 1,000 or a memory is too short.
     pub fn new(
         lines: usize,
@@ -105,12 +84,12 @@ impl<'a> Grid<PlanarCells<'a>> {
         characters: &'a mut [u32],
         formattings: &'a mut [u8],
     ) -> Grid<PlanarCells<'a>>
-        ensures size { grid_size planar_room result ≡ fitting_size lines columns (min (length characters.old) (length formattings.old)) }
-        ensures cells { AllBlank planar_room planar_stored result }
+        ensures size { result.size
+            ≡ fitting_size lines columns (min (length characters.old) (length formattings.old)) }
+        ensures cells { AllBlank planar_stored result }
     {
         Grid::of_blanks(
-            lines,
-            columns,
+            Size { lines, columns },
             PlanarCells {
                 characters,
                 formattings,
@@ -120,46 +99,43 @@ impl<'a> Grid<PlanarCells<'a>> {
 }
 
 impl<M: CellMemory> Page for Grid<M> {
-    ghost lines = { λ p. (grid_size M.CellMemory.room p).lines };
+    ghost use Rattle.page.specs.Grids.{grid_cells};
+    ghost use Rattle.std.specs.Prelude.{◌+◌};
+    ghost use Rattle.std.proofs.Common.{arith, mul_comm, rules};
+    ghost use Rattle.std.proofs.lemmas.Nat.{mul-add-lt};
 
-    ghost columns = { λ p. (grid_size M.CellMemory.room p).columns };
+    ghost size = { λ p. p.size };
 
-    ghost cells = { grid_cells M.CellMemory.room M.CellMemory.stored };
+    ghost cells = { grid_cells M.CellMemory.stored };
 
     // Nothing lies around it.
     ghost around = { λ _ _. Unit {0} };
 
-    ghost limits = { unfold grid_size in
-        λ p.
-        let room = M.CellMemory.room p.memory in
-        record {
-          lines_limit = omega (arith, fitting_lines p.size.lines p.size.columns room);
-          columns_limit = omega (arith, fitting_columns p.size.lines p.size.columns room);
-        } };
+    ghost limits = { Prim.search rules };
 
-    ghost lawful = { unfold grid_cells in λ p l c h k. shown_lawful (M.CellMemory.stored p.memory (l * (grid_size M.CellMemory.room p).columns + c)) };
+    ghost lawful = { λ p l c h k.
+        let lines = p.size.lines in let columns = p.size.columns in
+        p.all_lawful (l * columns + c) (omega (arith, mul-add-lt l columns c lines h k, mul_comm lines columns)) };
 
     ghost stays = { Prim.search rules };
 
     ghost goes = { Prim.search rules };
 
     fn size(&self) -> Size {
-        self.fitted()
+        self.size
     }
 
     fn cell(&self, line: usize, column: usize) -> Option<Cell> {
         let index = self.index_of(line, column)?;
-        Some(self.memory.load(index).or_blank())
+        Some(self.memory.load(index))
     }
 
-    fn place(&mut self, line: usize, column: usize, cell: Cell) -> Placed {
-        let Some(index) = self.index_of(line, column) else {
-            return Placed::Outside;
-        };
+    fn place(&mut self, line: usize, column: usize, cell: Cell) -> Result<(), PlaceError> {
+        let index = self.index_of(line, column).ok_or(PlaceError::Outside)?;
         if !cell.is_lawful() {
-            return Placed::Unlawful;
+            return Err(PlaceError::Unlawful);
         }
         self.memory.store(index, cell);
-        Placed::Set
+        Ok(())
     }
 }

@@ -8,7 +8,7 @@ mod memory;
 mod offset;
 mod page;
 
-pub use cell::{Cell, Placed, Size};
+pub use cell::{Cell, PlaceError, Size};
 pub use grid::{PackedPage, PlanarPage};
 pub use offset::OffsetPage;
 pub use page::Page;

@@ -1,7 +1,7 @@
 ghost use Rattle.std.specs.Prelude.{◌≡◌, ℕ, ◌%◌, ◌<◌, true, if◌then◌else◌, nat_eq};
 ghost use Rattle.page.specs.declared.cell.Cell.{Cell};
 ghost use Rattle.page.specs.Cells.{lawful_cell};
-ghost use Rattle.page.specs.Grids.{packed, packed_room, packed_stored, planar_room, planar_stored, unpacked};
+ghost use Rattle.page.specs.Memories.{packed, packed_room, packed_stored, planar_room, planar_stored, unpacked};
 
 use super::cell::Cell;
 
@@ -25,6 +25,7 @@ pub(crate) trait CellMemory {
         ensures room { room self.new ≡ room self.old };
 }
 
+// functions of this file, and no From: a word stands for a cell in a packed memory alone
 fn pack(cell: Cell) -> u32
     requires { lawful_cell cell ≡ true }
     ensures { result ≡ packed cell }
@@ -32,19 +33,12 @@ fn pack(cell: Cell) -> u32
     (cell.character << 3) + cell.formatting as u32
 }
 
-/// The three lowest bits.
-fn low_bits(word: u32) -> u8
-    ensures { result ≡ word % 8 }
-{
-    (word & 7) as u8
-}
-
 fn unpack(word: u32) -> Cell
     ensures { result ≡ unpacked word }
 {
     Cell {
         character: word >> 3,
-        formatting: low_bits(word),
+        formatting: (word & 7) as u8,
     }
 }
 
@@ -55,6 +49,7 @@ pub struct PackedCells<'a> {
 }
 
 /// The characters in one memory, the formattings in another.
+// two slices side by side: this make is for whoever has the two apart
 #[derive(Drop)]
 pub struct PlanarCells<'a> {
     pub(crate) characters: &'a mut [u32],

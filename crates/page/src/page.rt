@@ -1,13 +1,12 @@
-ghost use Rattle.std.specs.Prelude.{◌≡◌, ℕ};
+ghost use Rattle.std.specs.Prelude.{◌≡◌};
+ghost use Rattle.page.specs.declared.cell.Size.{Size};
 ghost use Rattle.page.specs.Pages.{AllLawful, CellMap, Limited, Painted, placing, reading};
 
-use super::cell::{Cell, Placed, Size};
+use super::cell::{Cell, PlaceError, Size};
 
 /// A page: a fixed number of lines and of columns, counted from 0, and a cell at each.
 pub trait Page {
-    ghost lines: { Self → ℕ };
-
-    ghost columns: { Self → ℕ };
+    ghost size: { Self → Size };
 
     // What the cell at a line and a column shows: it has a meaning inside the page only.
     ghost cells: { Self → CellMap };
@@ -17,22 +16,23 @@ pub trait Page {
 
     /// The lines and columns of the page.
     fn size(&self) -> Size
-        ensures answer { (result.lines ≡ lines self.now) × (result.columns ≡ columns self.now) };
+        ensures answer { result ≡ size self.now };
 
+    // line and column are two numbers here: an offset page shifts each by itself, and whoever paints counts each alone
     /// What a cell shows, or nothing outside the page.
     fn cell(&self, line: usize, column: usize) -> Option<Cell>
-        ensures answer { result ≡ reading (lines self.now) (columns self.now) (cells self.now) line column };
+        ensures answer { result ≡ reading (size self.now) (cells self.now) line column };
 
-    /// Sets one cell, or no cell where the answer is another than `Set`.
-    fn place(&mut self, line: usize, column: usize, cell: Cell) -> Placed
-        ensures answer { result ≡ placing (lines self.old) (columns self.old) line column cell }
-        ensures cells { Painted (lines self.old) (columns self.old) result line column cell (cells self.old) (cells self.new) }
-        ensures size { (lines self.new ≡ lines self.old) × (columns self.new ≡ columns self.old) }
+    /// Sets one cell, or no cell where it fails.
+    fn place(&mut self, line: usize, column: usize, cell: Cell) -> Result<(), PlaceError>
+        ensures answer { result ≡ placing (size self.old) line column cell }
+        ensures cells { Painted (size self.old) result line column cell (cells self.old) (cells self.new) }
+        ensures size { size self.new ≡ size self.old }
         ensures around { around self.old self.new };
 
-    ghost limits: { (p : Self) → Limited (lines p) (columns p) };
+    ghost limits: { (p : Self) → Limited (size p) };
 
-    ghost lawful: { (p : Self) → AllLawful (lines p) (columns p) (cells p) };
+    ghost lawful: { (p : Self) → AllLawful (size p) (cells p) };
 
     ghost stays: { (p : Self) → around p p };
 

@@ -1,12 +1,5 @@
-use super::probe::{is_outside, is_set, shows};
-use page::{Cell, OffsetPage, PackedPage, Page, Placed, PlanarPage};
-
-fn is_unlawful(answer: Placed) -> bool {
-    match answer {
-        Placed::Unlawful => true,
-        Placed::Set | Placed::Outside => false,
-    }
-}
+use super::probe::shows;
+use page::{Cell, OffsetPage, PackedPage, Page, PlaceError, PlanarPage};
 
 const LAWFUL: [(u32, u8); 5] = [(0, 0), (1_114_111, 7), (1_114_111, 0), (0, 7), (32, 4)];
 
@@ -14,29 +7,25 @@ const UNLAWFUL: [(u32, u8); 4] = [(1_114_112, 0), (0, 8), (1_114_112, 8), (u32::
 
 /// Whether each unlawful cell is turned down, inside and outside.
 fn turns_down_unlawful<P: Page>(page: &mut P) -> bool {
-    let mut all = true;
-    for (character, formatting) in UNLAWFUL {
+    UNLAWFUL.into_iter().all(|(character, formatting)| {
         let cell = Cell {
             character,
             formatting,
         };
-        all = is_unlawful(page.place(1, 1, cell)) && is_outside(page.place(2, 1, cell)) && all;
-    }
-    all
+        page.place(1, 1, cell) == Err(PlaceError::Unlawful)
+            && page.place(2, 1, cell) == Err(PlaceError::Outside)
+    })
 }
 
 /// Whether each lawful cell is set, and stays when unlawful ones are turned down.
 fn keeps_lawful<P: Page>(page: &mut P) -> bool {
-    let mut all = true;
-    for (character, formatting) in LAWFUL {
+    LAWFUL.into_iter().all(|(character, formatting)| {
         let cell = Cell {
             character,
             formatting,
         };
-        let placed = page.place(1, 1, cell);
-        all = is_set(placed) && turns_down_unlawful(page) && shows(page, 1, 1, cell) && all;
-    }
-    all && shows(page, 0, 0, Cell::blank())
+        page.place(1, 1, cell) == Ok(()) && turns_down_unlawful(page) && shows(page, 1, 1, cell)
+    }) && shows(page, 0, 0, Cell::blank())
 }
 
 #[test]

@@ -1,4 +1,4 @@
-use super::probe::{INK, count, has_size, is_blank, shows, takes_a_frame};
+use super::probe::{INK, count, is_blank, shows, size, takes_a_frame};
 use page::{Cell, OffsetPage, PackedPage, Page, PlanarPage};
 
 // a shift in lines and columns, and what remains of 20 lines and 80 columns
@@ -16,11 +16,11 @@ const SHIFTS: [((usize, usize), (usize, usize)); 9] = [
 
 /// Whether the frame lies in the last 15 lines and 72 columns, and nothing else on the page.
 fn has_the_frame<P: Page>(page: &P) -> bool {
-    has_size(page, 20, 80)
-        && count(page, 20, 80, INK) == 170
-        && count(page, 20, 80, Cell::blank()) == 1430
-        && count(page, 5, 80, Cell::blank()) == 400
-        && count(page, 20, 8, Cell::blank()) == 160
+    page.size() == size(20, 80)
+        && count(page, size(20, 80), INK) == 170
+        && count(page, size(20, 80), Cell::blank()) == 1430
+        && count(page, size(5, 80), Cell::blank()) == 400
+        && count(page, size(20, 8), Cell::blank()) == 160
         && shows(page, 5, 8, INK)
         && shows(page, 19, 79, INK)
 }
@@ -36,19 +36,21 @@ fn frames_two_below<P: Page + Drop>(below: P) -> bool {
     let mut page = OffsetPage::new(OffsetPage::new(below, 2, 8), 3, 0);
     let framed = takes_a_frame(&mut page);
     let window = page.into_inner();
-    let shown = has_size(&window, 18, 72)
+    let shown = window.size() == size(18, 72)
         && shows(&window, 3, 0, INK)
         && shows(&window, 2, 0, Cell::blank());
     let below = window.into_inner();
     framed && shown && has_the_frame(&below)
 }
 
+// a test for each make, since what a page is lent has to live beside it
 #[test]
 fn packed_shifts(rt: HostRuntime) {
     for ((down, right), (lines, columns)) in SHIFTS {
         let mut words = [7; 1600];
-        let mut page = OffsetPage::new(PackedPage::new(20, 80, &mut words), down, right);
-        assert!(rt; is_blank(&mut page, lines, columns));
+        let below = PackedPage::new(20, 80, &mut words);
+        let mut page = OffsetPage::new(below, down, right);
+        assert!(rt; is_blank(&mut page, size(lines, columns)));
     }
 }
 
@@ -59,7 +61,7 @@ fn planar_shifts(rt: HostRuntime) {
         let mut formattings = [255; 1600];
         let below = PlanarPage::new(20, 80, &mut characters, &mut formattings);
         let mut page = OffsetPage::new(below, down, right);
-        assert!(rt; is_blank(&mut page, lines, columns));
+        assert!(rt; is_blank(&mut page, size(lines, columns)));
     }
 }
 

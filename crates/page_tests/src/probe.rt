@@ -1,73 +1,39 @@
-use page::{Cell, Page, Placed};
+use page::{Cell, Page, PlaceError, Size};
 
 pub(crate) const INK: Cell = Cell {
     character: 1_114_111,
     formatting: 7,
 };
 
-pub(crate) fn is_set(answer: Placed) -> bool {
-    match answer {
-        Placed::Set => true,
-        Placed::Outside | Placed::Unlawful => false,
-    }
-}
-
-pub(crate) fn is_outside(answer: Placed) -> bool {
-    match answer {
-        Placed::Outside => true,
-        Placed::Set | Placed::Unlawful => false,
-    }
+pub(crate) fn size(lines: usize, columns: usize) -> Size {
+    Size { lines, columns }
 }
 
 pub(crate) fn shows<P: Page>(page: &P, line: usize, column: usize, cell: Cell) -> bool {
-    match page.cell(line, column) {
-        Some(found) => found.character == cell.character && found.formatting == cell.formatting,
-        None => false,
-    }
+    page.cell(line, column) == Some(cell)
 }
 
-pub(crate) fn has_size<P: Page>(page: &P, lines: usize, columns: usize) -> bool {
-    let size = page.size();
-    size.lines == lines && size.columns == columns
+/// Places ink in a cell, and tells whether the page took it.
+fn takes_ink<P: Page>(page: &mut P, line: usize, column: usize) -> bool {
+    page.place(line, column, INK) == Ok(())
 }
 
 fn count_in_line<P: Page>(page: &P, line: usize, columns: usize, cell: Cell) -> usize {
-    let mut count: usize = 0;
-    for column in 0..columns {
-        if shows(page, line, column, cell) {
-            count = count.saturating_add(1);
-        }
-    }
-    count
+    (0..columns)
+        .filter(|column| shows(page, line, *column, cell))
+        .count()
 }
 
 /// How many of the cells in the first lines and columns show that.
-pub(crate) fn count<P: Page>(page: &P, lines: usize, columns: usize, cell: Cell) -> usize {
-    let mut count: usize = 0;
-    for line in 0..lines {
-        count = count.saturating_add(count_in_line(page, line, columns, cell));
-    }
-    count
-}
-
-fn ink_line<P: Page>(page: &mut P, line: usize, columns: usize) -> bool {
-    let mut all = true;
-    for column in 0..columns {
-        all = is_set(page.place(line, column, INK)) && all;
-    }
-    all
-}
-
-fn ink_column<P: Page>(page: &mut P, column: usize, lines: usize) -> bool {
-    let mut all = true;
-    for line in 0..lines {
-        all = is_set(page.place(line, column, INK)) && all;
-    }
-    all
+pub(crate) fn count<P: Page>(page: &P, first: Size, cell: Cell) -> usize {
+    (0..first.lines).fold(0, |count: usize, line| {
+        count.saturating_add(count_in_line(page, line, first.columns, cell))
+    })
 }
 
 /// Whether a page has that size, shows a blank in every cell, and turns down each place next to it.
-pub(crate) fn is_blank<P: Page>(page: &mut P, lines: usize, columns: usize) -> bool {
+pub(crate) fn is_blank<P: Page>(page: &mut P, made: Size) -> bool {
+    let Size { lines, columns } = made;
     let places = [
         (lines, 0),
         (0, columns),
@@ -77,36 +43,31 @@ pub(crate) fn is_blank<P: Page>(page: &mut P, lines: usize, columns: usize) -> b
         (usize::MAX, 0),
         (0, usize::MAX),
     ];
-    let mut none = true;
-    for (line, column) in places {
-        let placed = page.place(line, column, INK);
-        none = is_outside(placed) && page.cell(line, column).is_none() && none;
-    }
-    none && has_size(page, lines, columns)
-        && count(page, lines, columns, Cell::blank()) == lines.saturating_mul(columns)
+    places.into_iter().all(|(line, column)| {
+        page.place(line, column, INK) == Err(PlaceError::Outside) && page.cell(line, column) == None
+    }) && page.size() == made
+        && count(page, made, Cell::blank()) == lines.saturating_mul(columns)
 }
 
 /// Whether a page is blank and has that size, and takes a cell in each of its corners, if it has any.
-pub(crate) fn is_made<P: Page>(page: &mut P, lines: usize, columns: usize) -> bool {
-    let (bottom, right) = (lines.saturating_sub(1), columns.saturating_sub(1));
-    let some = lines > 0 && columns > 0;
-    let mut all = is_blank(page, lines, columns);
-    for (line, column) in [(0, 0), (0, right), (bottom, 0), (bottom, right)] {
-        let set = is_set(page.place(line, column, INK));
-        all = set == some && shows(page, line, column, INK) == some && all;
-    }
-    all
+pub(crate) fn is_made<P: Page>(page: &mut P, made: Size) -> bool {
+    let bottom = made.lines.saturating_sub(1);
+    let right = made.columns.saturating_sub(1);
+    let some = made.lines > 0 && made.columns > 0;
+    let corners = [(0, 0), (0, right), (bottom, 0), (bottom, right)];
+    is_blank(page, made)
+        && corners.into_iter().all(|(line, column)| {
+            takes_ink(page, line, column) == some && shows(page, line, column, INK) == some
+        })
 }
 
 /// Inks a blank page of 15 lines and 72 columns along its four borders, and tells whether it then
 /// shows that and nothing else.
 pub(crate) fn takes_a_frame<P: Page>(page: &mut P) -> bool {
-    is_blank(page, 15, 72)
-        && ink_line(page, 0, 72)
-        && ink_line(page, 14, 72)
-        && ink_column(page, 0, 15)
-        && ink_column(page, 71, 15)
-        && count(page, 15, 72, INK) == 170
-        && count(page, 15, 72, Cell::blank()) == 910
-        && has_size(page, 15, 72)
+    is_blank(page, size(15, 72))
+        && (0..72).all(|column| takes_ink(page, 0, column) && takes_ink(page, 14, column))
+        && (0..15).all(|line| takes_ink(page, line, 0) && takes_ink(page, line, 71))
+        && count(page, size(15, 72), INK) == 170
+        && count(page, size(15, 72), Cell::blank()) == 910
+        && page.size() == size(15, 72)
 }

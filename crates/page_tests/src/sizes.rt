@@ -1,5 +1,5 @@
-use super::probe::{has_size, is_blank, is_made, takes_a_frame};
-use page::{PackedPage, PlanarPage};
+use super::probe::{is_blank, is_made, size, takes_a_frame};
+use page::{PackedPage, Page, PlanarPage, Size};
 use std::test::Fail;
 
 // lines, columns and room that are given, and the lines and columns that come of it
@@ -22,62 +22,64 @@ const MAKES: [(usize, usize, usize, (usize, usize)); 16] = [
     (usize::MAX, usize::MAX, 1600, (0, 0)),
 ];
 
-#[test]
-fn packed_sizes(rt: HostRuntime) {
-    for (lines, columns, room, made) in MAKES {
+// a function for each make, since what a page is lent has to live beside it
+/// Whether that holds of each page of the table in one memory, whatever the memory held.
+fn packed_makes<F: Fn(&mut PackedPage, Size) -> bool>(holds: F) -> bool
+    requires { F.IsAlwaysCallable holds }
+{
+    MAKES.into_iter().all(|(lines, columns, room, made)| {
         let mut words = [u32::MAX; 1600];
         let mut page = PackedPage::new(lines, columns, &mut words[..room.min(1600)]);
-        assert!(rt; is_blank(&mut page, made.0, made.1));
-    }
+        holds(&mut page, size(made.0, made.1))
+    })
+}
+
+/// Whether that holds of each page of the table in two memories, whatever they held.
+fn planar_makes<F: Fn(&mut PlanarPage, Size) -> bool>(holds: F) -> bool
+    requires { F.IsAlwaysCallable holds }
+{
+    MAKES.into_iter().all(|(lines, columns, room, made)| {
+        let mut characters = [65; 1600];
+        let mut formattings = [255; 1600];
+        let room = room.min(1600);
+        let mut page = PlanarPage::new(
+            lines,
+            columns,
+            &mut characters[..room],
+            &mut formattings[..room],
+        );
+        holds(&mut page, size(made.0, made.1))
+    })
+}
+
+#[test]
+fn packed_sizes(rt: HostRuntime) {
+    assert!(rt; packed_makes(|page, made| is_blank(page, made)));
 }
 
 #[test]
 fn planar_sizes(rt: HostRuntime) {
-    for (lines, columns, room, made) in MAKES {
-        let mut characters = [65; 1600];
-        let mut formattings = [255; 1600];
-        let room = room.min(1600);
-        let mut page = PlanarPage::new(
-            lines,
-            columns,
-            &mut characters[..room],
-            &mut formattings[..room],
-        );
-        assert!(rt; is_blank(&mut page, made.0, made.1));
-    }
+    assert!(rt; planar_makes(|page, made| is_blank(page, made)));
 }
 
 #[test]
 fn packed_corners(rt: HostRuntime) {
-    for (lines, columns, room, made) in MAKES {
-        let mut words = [u32::MAX; 1600];
-        let mut page = PackedPage::new(lines, columns, &mut words[..room.min(1600)]);
-        assert!(rt; is_made(&mut page, made.0, made.1));
-    }
+    assert!(rt; packed_makes(|page, made| is_made(page, made)));
 }
 
 #[test]
 fn planar_corners(rt: HostRuntime) {
-    for (lines, columns, room, made) in MAKES {
-        let mut characters = [65; 1600];
-        let mut formattings = [255; 1600];
-        let room = room.min(1600);
-        let mut page = PlanarPage::new(
-            lines,
-            columns,
-            &mut characters[..room],
-            &mut formattings[..room],
-        );
-        assert!(rt; is_made(&mut page, made.0, made.1));
-    }
+    assert!(rt; planar_makes(|page, made| is_made(page, made)));
 }
 
 #[test]
 fn packed_largest(rt: HostRuntime) -> Result<(), Fail> {
     let mut words = vec![in rt.alloc(); u32::MAX; 1_000_000]?;
-    assert!(rt; is_made(&mut PackedPage::new(1000, 1000, &mut words), 1000, 1000));
+    let mut page = PackedPage::new(1000, 1000, &mut words);
+    assert!(rt; is_made(&mut page, size(1000, 1000)));
     let _ = words.pop();
-    assert!(rt; is_made(&mut PackedPage::new(1000, 1000, &mut words), 0, 0));
+    let mut page = PackedPage::new(1000, 1000, &mut words);
+    assert!(rt; is_made(&mut page, size(0, 0)));
     Ok(())
 }
 
@@ -86,10 +88,10 @@ fn planar_largest(rt: HostRuntime) -> Result<(), Fail> {
     let mut characters = vec![in rt.alloc(); 65; 1_000_000]?;
     let mut formattings = vec![in rt.alloc(); 255; 1_000_000]?;
     let mut page = PlanarPage::new(1000, 1000, &mut characters, &mut formattings);
-    assert!(rt; is_made(&mut page, 1000, 1000));
+    assert!(rt; is_made(&mut page, size(1000, 1000)));
     let _ = formattings.pop();
     let mut page = PlanarPage::new(1000, 1000, &mut characters, &mut formattings);
-    assert!(rt; is_made(&mut page, 0, 0));
+    assert!(rt; is_made(&mut page, size(0, 0)));
     Ok(())
 }
 
@@ -101,7 +103,7 @@ fn planar_memory_one_short(rt: HostRuntime) {
     let mut formattings_short = [7; 1079];
     let narrow = PlanarPage::new(15, 72, &mut characters_short, &mut formattings);
     let low = PlanarPage::new(15, 72, &mut characters, &mut formattings_short);
-    assert!(rt; has_size(&narrow, 0, 0) && has_size(&low, 0, 0));
+    assert!(rt; narrow.size() == size(0, 0) && low.size() == size(0, 0));
 }
 
 #[test]

@@ -1,5 +1,6 @@
 -- A record's first twelve bytes: an id of 6, a version of 2, and a length of 4 digits that counts the bytes behind them.
 use Rattle.std.specs.Prelude.{ℕ, ◌+◌, Bool, true, not, ◌&&◌, List, length, Ok, codes, Result, ◌==◌, nat_le}
+use Rattle.std.specs.List.{list_all}
 use Rattle.std.specs.Str.{bytes_eq}
 use Rattle.refusal.specs.Chain.{then, lift, demand}
 use Rattle.refusal.specs.declared.faults.Site.{Site}
@@ -7,7 +8,7 @@ use Rattle.refusal.specs.declared.causes.ItemCause.TheVariants.{NoDigit}
 use Rattle.refusal.specs.declared.causes.RecordCause.TheVariants.{TooFewBytes, WrongId, WrongVersion, WrongLength}
 use Rattle.refusal.specs.declared.faults.RecordFault.{RecordFault}
 use Rattle.refusal.specs.declared.faults.RecordFault.TheVariants.{Item, Own}
-use Rattle.octets.specs.Bytes.{part, every, is_digit, is_printable}
+use Rattle.octets.specs.Bytes.{part, is_digit, is_printable}
 use Rattle.octets.specs.Digits.{numeral}
 use Rattle.record.specs.declared.start.RecordKind.{RecordKind}
 use Rattle.record.specs.declared.start.RecordKind.TheVariants.{Head, Layout, Carried}
@@ -19,12 +20,12 @@ in_record number place = record { «record» = number; field = 0; place = place 
 abbrev pub lawful_id : RecordKind → List ℕ → Bool
 lawful_id Head id = bytes_eq id (codes "U_HEAD")
 lawful_id Layout id = bytes_eq id (codes "U_TLAY")
-lawful_id Carried id = every is_printable id && (not (bytes_eq id (codes "U_HEAD")) && not (bytes_eq id (codes "U_TLAY")))
+lawful_id Carried id = list_all is_printable id && (not (bytes_eq id (codes "U_HEAD")) && not (bytes_eq id (codes "U_TLAY")))
 
 abbrev pub lawful_version : RecordKind → List ℕ → Bool
 lawful_version Head version = bytes_eq version (codes "01")
 lawful_version Layout version = bytes_eq version (codes "01")
-lawful_version Carried version = every is_digit version
+lawful_version Carried version = list_all is_digit version
 
 abbrev pub lawful_length : RecordKind → ℕ → Bool
 lawful_length Head n = n == 41

@@ -1,4 +1,5 @@
 use head::Head;
+use lists::lay;
 use refusal::Refusal;
 
 const SAMPLE: &[u8; 53] = b"U_HEAD0100419997       32507828119662005200812310de  ";
@@ -6,19 +7,12 @@ const SAMPLE: &[u8; 53] = b"U_HEAD0100419997       32507828119662005200812310de 
 /// The sample with other bytes from a place on.
 fn changed(place: usize, bytes: &[u8]) -> [u8; 53] {
     let mut message = *SAMPLE;
-    for (i, byte) in bytes.iter().enumerate() {
-        if place < 53 && i < 53 - place {
-            message[place + i] = *byte;
-        }
-    }
+    lay(&mut message, place, bytes);
     message
 }
 
 fn refusal_of(message: &[u8]) -> Option<Refusal> {
-    match Head::read(message) {
-        Ok(_) => None,
-        Err(fault) => Some(fault.figures()),
-    }
+    Head::read(message).err().map(Refusal::from)
 }
 
 fn refused(number: u8, layer: u8, place: usize) -> Option<Refusal> {

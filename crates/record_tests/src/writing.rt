@@ -23,10 +23,7 @@ fn sample() -> HeadItems {
 }
 
 fn refusal_of(items: HeadItems) -> Option<Refusal> {
-    match Head::new(items) {
-        Ok(_) => None,
-        Err(fault) => Some(fault.figures()),
-    }
+    Head::new(items).err().map(|fault| Refusal::from(fault))
 }
 
 const UNLAWFUL: Option<Refusal> = Some(Refusal {
@@ -71,10 +68,7 @@ fn writes_the_sample_and_leaves_the_rest(rt: HostRuntime) -> Result<(), Fail> {
         return Err(Fail::new("the sample is lawful"));
     };
     let mut buffer = [b'#'; 56];
-    match head.write(&mut buffer) {
-        Ok(count) => assert_eq!(rt; count, 53),
-        Err(_) => return Err(Fail::new("the buffer is long enough")),
-    }
+    assert_eq!(rt; head.write(&mut buffer), Ok(53));
     assert!(rt; buffer == *b"U_HEAD0100419997       32507828119662005200812310de  ###");
     Ok(())
 }
@@ -85,10 +79,10 @@ fn a_short_buffer_stays_as_it_was(rt: HostRuntime) -> Result<(), Fail> {
         return Err(Fail::new("the sample is lawful"));
     };
     let mut buffer = [b'#'; 52];
-    let refusal = match head.write(&mut buffer) {
-        Ok(_) => None,
-        Err(fault) => Some(fault.figures()),
-    };
+    let refusal = head
+        .write(&mut buffer)
+        .err()
+        .map(|fault| Refusal::from(fault));
     let too_short = Refusal {
         number: 16,
         layer: 3,

@@ -2,7 +2,7 @@ ghost use Rattle.std.specs.Prelude.{◌≡◌};
 ghost use Rattle.refusal.specs.Numbers.{item_number, record_number, sheet_number};
 
 /// What can be wrong with one item.
-#[derive(Clone, Copy)]
+#[derive(Clone, Copy, PartialEq, Eq, Debug)]
 pub enum ItemCause {
     /// no digit in a record length or a layout number
     NoDigit,
@@ -15,7 +15,7 @@ pub enum ItemCause {
 }
 
 /// What can be wrong with a record whose items are lawful one by one.
-#[derive(Clone, Copy)]
+#[derive(Clone, Copy, PartialEq, Eq, Debug)]
 pub enum RecordCause {
     /// too few bytes left for an item of a record's first twelve, or for its body
     TooFewBytes,
@@ -30,7 +30,7 @@ pub enum RecordCause {
 }
 
 /// What can be wrong with a call on a sheet whose items and records are lawful.
-#[derive(Clone, Copy)]
+#[derive(Clone, Copy, PartialEq, Eq, Debug)]
 pub enum SheetCause {
     /// no such field or carried record
     NoSuchEntry,
@@ -45,11 +45,11 @@ pub enum SheetCause {
     BufferTooShort,
 }
 
-impl ItemCause {
-    pub fn number(self) -> u8
-        ensures { result ≡ item_number self }
-    {
-        match self {
+impl From<ItemCause> for u8 {
+    ghost from_gives = { λ x r. r ≡ item_number x };
+
+    fn from(cause: ItemCause) -> u8 {
+        match cause {
             ItemCause::NoDigit => 4,
             ItemCause::HeadItem => 7,
             ItemCause::Rectangle => 8,
@@ -58,11 +58,11 @@ impl ItemCause {
     }
 }
 
-impl RecordCause {
-    pub fn number(self) -> u8
-        ensures { result ≡ record_number self }
-    {
-        match self {
+impl From<RecordCause> for u8 {
+    ghost from_gives = { λ x r. r ≡ record_number x };
+
+    fn from(cause: RecordCause) -> u8 {
+        match cause {
             RecordCause::TooFewBytes => 1,
             RecordCause::WrongId => 2,
             RecordCause::WrongVersion => 3,
@@ -73,11 +73,11 @@ impl RecordCause {
     }
 }
 
-impl SheetCause {
-    pub fn number(self) -> u8
-        ensures { result ≡ sheet_number self }
-    {
-        match self {
+impl From<SheetCause> for u8 {
+    ghost from_gives = { λ x r. r ≡ sheet_number x };
+
+    fn from(cause: SheetCause) -> u8 {
+        match cause {
             SheetCause::NoSuchEntry => 11,
             SheetCause::NoTicket => 12,
             SheetCause::TooManyEntries => 13,

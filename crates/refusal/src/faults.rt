@@ -6,29 +6,43 @@ use super::causes::{ItemCause, RecordCause, SheetCause};
 
 /// Where a fault lies, each counted from 0 and 0 where it does not apply: the record in the message
 /// (the head is 0), the field in the layout, and the byte in the message.
-#[derive(Clone, Copy)]
+#[derive(Clone, Copy, PartialEq, Eq, Debug)]
 pub struct Site {
     pub record: usize,
     pub field: usize,
     pub place: usize,
 }
 
+impl Site {
+    /// A place in a record, outside the fields of a layout.
+    pub fn in_record(number: usize, place: usize) -> Site
+        ensures { result ≡ record { «record» = number; field = 0; place = place } }
+    {
+        Site {
+            record: number,
+            field: 0,
+            place,
+        }
+    }
+}
+
 /// Layer 1.
-#[derive(Clone, Copy)]
+#[derive(Clone, Copy, PartialEq, Eq, Debug)]
 pub struct ItemFault {
     pub cause: ItemCause,
     pub site: Site,
 }
 
 /// Layer 2: a record's own fault, or that of one of its items.
-#[derive(Clone, Copy)]
+#[derive(Clone, Copy, PartialEq, Eq, Debug)]
 pub enum RecordFault {
     Item(ItemFault),
     Own(RecordCause, Site),
 }
 
 /// Layer 3: a sheet's own fault, or that of a record.
-#[derive(Clone, Copy)]
+// a type beside RecordFault, not one with parameters: a variant's name says whose fault it holds
+#[derive(Clone, Copy, PartialEq, Eq, Debug)]
 pub enum SheetFault {
     Record(RecordFault),
     Own(SheetCause, Site),

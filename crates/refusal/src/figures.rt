@@ -26,32 +26,32 @@ fn refusal_at(number: u8, layer: u8, site: Site) -> Refusal
     }
 }
 
-impl ItemFault {
-    pub fn figures(self) -> Refusal
-        ensures { result ≡ item_figures self }
-    {
-        refusal_at(self.cause.number(), 1, self.site)
+impl From<ItemFault> for Refusal {
+    ghost from_gives = { λ x r. r ≡ item_figures x };
+
+    fn from(fault: ItemFault) -> Refusal {
+        refusal_at(u8::from(fault.cause), 1, fault.site)
     }
 }
 
-impl RecordFault {
-    pub fn figures(self) -> Refusal
-        ensures { result ≡ record_figures self }
-    {
-        match self {
-            RecordFault::Item(fault) => fault.figures(),
-            RecordFault::Own(cause, site) => refusal_at(cause.number(), 2, site),
+impl From<RecordFault> for Refusal {
+    ghost from_gives = { λ x r. r ≡ record_figures x };
+
+    fn from(fault: RecordFault) -> Refusal {
+        match fault {
+            RecordFault::Item(fault) => Refusal::from(fault),
+            RecordFault::Own(cause, site) => refusal_at(u8::from(cause), 2, site),
         }
     }
 }
 
-impl SheetFault {
-    pub fn figures(self) -> Refusal
-        ensures { result ≡ sheet_figures self }
-    {
-        match self {
-            SheetFault::Record(fault) => fault.figures(),
-            SheetFault::Own(cause, site) => refusal_at(cause.number(), 3, site),
+impl From<SheetFault> for Refusal {
+    ghost from_gives = { λ x r. r ≡ sheet_figures x };
+
+    fn from(fault: SheetFault) -> Refusal {
+        match fault {
+            SheetFault::Record(fault) => Refusal::from(fault),
+            SheetFault::Own(cause, site) => refusal_at(u8::from(cause), 3, site),
         }
     }
 }

@@ -1,11 +1,24 @@
 -- A memory of which only the first n entries count, or all where it has fewer.
-use Rattle.std.proofs.Common.{◌≡◌, ℕ, ◌+◌, ◌-◌, ◌≤◌, List, ◌++◌, length, take, drop, sym, refl, ap, ◌∙◌, ⊎_elim, arith, take-add}
-use lib.Seq.{paste}
+use Rattle.std.proofs.Common.{◌≡◌, ℕ, ◌+◌, ◌-◌, ◌<◌, ◌≤◌, List, ◌++◌, length, take, drop, set, sym, ap, ◌∙◌, ⊎_elim, arith, take-add}
+use lib.Seq.{paste, take-set-lt}
 use Rattle.std.proofs.lemmas.List.{append-nil, append_assoc, length-append, length-take, length-take-le, length-drop, take_all, drop_all, take_at, drop-drop, take-take, drop-take, take-append-drop, take-append-le, drop-append-le}
 use Rattle.std.proofs.lemmas.List.Edits.{take-paste}
 use Rattle.std.proofs.lemmas.Bool.{cases_lt}
-use Rattle.sequence.specs.Parts.{part, spliced, without, moved, written, rotated, turned}
+use Rattle.lists.specs.Laying.{laid}
+use Rattle.sequence.specs.Parts.{part, spliced, without, moved}
 use Rattle.sequence.proofs.PartLaws.{length_without, length_moved}
+
+-- a memory with others written over so many entries from a place on
+abbrev pub written : {X : Type 0} → ℕ → ℕ → List X → List X → List X
+written place count others xs = take place xs ++ (others ++ drop count (drop place xs))
+
+-- a list with so many first entries behind the others
+abbrev pub rotated : {X : Type 0} → ℕ → List X → List X
+rotated count xs = drop count xs ++ take count xs
+
+-- a memory in which so many entries from a place on went behind the others that lie before an end
+abbrev pub turned : {X : Type 0} → ℕ → ℕ → ℕ → List X → List X
+turned place count end xs = written place (end - place) (rotated count (part place (end - place) xs)) xs
 
 -- k is how many count
 pub front_same : {X : Type 0} (n k : ℕ) (xs : List X) → k ≡ length (take n xs) → take k xs ≡ take n xs
@@ -51,6 +64,13 @@ front_without place count n k xs e fits =
     ap (take (k - count)) (turned_is place count k xs fits ∙ ap (λ s. moved place count s ++ drop k xs) (front_same n k xs e) ∙ append_assoc (without place count h) (part place count h) (drop k xs))
     ∙ take_at (without place count h) (part place count h ++ drop k xs) (k - count) (omega (arith, length_without place count h (omega arith)))
 
+-- so it is of a list of which a part went behind the rest, and then counts no longer
+pub front_fewer : {X : Type 0} (place count n : ℕ) (xs h : List X) → n ≤ length xs → place + count ≤ length h → take n xs ≡ moved place count h → take (n - count) xs ≡ without place count h
+front_fewer place count n xs h long fits e =
+    sym (take-take (n - count) n xs (omega arith))
+    ∙ ap (take (n - count)) e
+    ∙ take_at (without place count h) (part place count h) (n - count) (omega (arith, length_without place count h fits, length_moved place count h fits, ap length e, length-take-le n xs long))
+
 -- others of the same number were written from a place on
 pub front_spliced : {X : Type 0} (place count n k : ℕ) (xs ys : List X) → k ≡ length (take n xs) → place + count ≤ k → length ys ≡ count → take n (written place count ys xs) ≡ spliced place count ys (take n xs)
 front_spliced place count n k xs ys e fits long =
@@ -78,9 +98,13 @@ front_resized place old new n k xs e fits room =
     ∙ ap (λ s. s ++ drop (place + old) h) (take-add place new xs ∙ ap (λ s. s ++ part place new xs) front)
     ∙ append_assoc (take place h) (part place new xs) (drop (place + old) h)
 
-pub front_part : {X : Type 0} (place count n : ℕ) (xs : List X) → place + count ≤ length (take n xs) → part place count xs ≡ part place count (take n xs)
-front_part place count n xs fits =
-    let h = take n xs in
-    let t = drop (length h) xs in
-    let cut : h ++ t ≡ xs = ap (λ s. s ++ t) (sym (front_same n (length h) xs refl)) ∙ take-append-drop (length h) xs in
-    ap (part place count) (sym cut) ∙ ap (take count) (drop-append-le place h t (omega arith)) ∙ take-append-le count (drop place h) t (omega (arith, length-drop place h))
+-- an entry among those that count was put anew
+pub front_set : {X : Type 0} (n i : ℕ) (xs : List X) (x : X) → i < n → take n (set xs i x) ≡ set (take n xs) i x
+front_set n i xs x there = take-set-lt n xs i x there
+
+-- others were written over so many of those that count
+pub front_laid : {X : Type 0} (place count n : ℕ) (xs ys b : List X) → n ≤ length xs → place + length b ≤ n → count ≡ length b → ys ≡ b → take n (written place count ys xs) ≡ laid (take n xs) place b
+front_laid place count n xs ys b all fits k e =
+    front_spliced place count n n xs ys (sym (length-take-le n xs all)) (omega arith) (ap length e ∙ sym k)
+    ∙ ap (λ m. spliced place m ys (take n xs)) k
+    ∙ ap (λ y. spliced place (length b) y (take n xs)) e

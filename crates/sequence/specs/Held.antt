@@ -1,7 +1,6 @@
 -- What is held of the memory lent.
 use Rattle.std.specs.Prelude.{ℕ, List, length, take}
 use Rattle.sequence.specs.declared.list.Sequence.{Sequence}
-use Rattle.sequence.specs.declared.store.ByteStore.{ByteStore}
 
 -- the entries, first to last
 abbrev pub held : {T : Type 0} → Sequence T → List T
@@ -10,11 +9,3 @@ held s = take s.len s.items.now
 -- how many there may be
 abbrev pub room_for : {T : Type 0} → Sequence T → ℕ
 room_for s = length s.items.now
-
--- the used bytes
-abbrev pub held_bytes : ByteStore → List ℕ
-held_bytes s = take s.used s.bytes.now
-
--- how many there may be
-abbrev pub byte_room_for : ByteStore → ℕ
-byte_room_for s = length s.bytes.now

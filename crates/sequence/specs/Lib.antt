@@ -1,3 +1,4 @@
 pub mod Parts
 pub mod Pieces
+pub mod Answers
 pub mod Held

@@ -1,9 +1,9 @@
-//! An ordered list of entries, and byte strings laid end to end, each over memory that the caller lends.
+//! An ordered list of entries over memory that the caller lends, whose ranges may be pieces laid end to end.
 #![tactic(auto)]
 
+mod error;
 mod list;
 mod moving;
-mod store;
 
-pub use list::Sequence;
-pub use store::ByteStore;
+pub use error::SequenceError;
+pub use list::{ByteStore, Sequence};

@@ -1,18 +1,31 @@
-ghost use Rattle.std.specs.Prelude.{◌≡◌, ◌+◌, ◌-◌, ◌<◌, ◌≤◌, min, false, [], ◌∷◌, ◌++◌, length, if◌then◌else◌, nat_lt, slice_index_or, slice_set};
-ghost use Rattle.std.specs.List.{slice_get};
-ghost use Rattle.sequence.specs.Parts.{removed, raised, turned};
-ghost use Rattle.sequence.specs.Held.{held, room_for};
+ghost use Rattle.std.specs.Prelude.{◌≤◌, length};
 
-use super::moving::{length_up_to, lies_within, move_behind};
+use super::error::SequenceError;
+use super::moving::{lies_within, move_behind};
 
 /// Entries in order, over lent memory.
+// a slice and a count, no Vec: the caller lends the memory, and there is no heap
 #[derive(Drop)]
 pub struct Sequence<'a, T> {
     items: &'a mut [T],
     len: usize,
+    ghost within: { len ≤ length items.now },
 }
 
+/// Byte strings laid end to end, over lent memory.
+pub type ByteStore<'a> = Sequence<'a, u8>;
+
+// A range is told by place and count, since a caller's place + count may not fit a usize.
+// `room` and `refused` stand at each call: they compare two values, which no invariant of one can.
 impl<'a, T: Copy> Sequence<'a, T> {
+    ghost use Rattle.std.specs.Prelude.{◌≡◌, ℕ, ◌+◌, min, List, [], ◌∷◌, ◌++◌, Some, OnOk, OnErr, slice_get, slice_set};
+    ghost use Rattle.std.specs.Option.{option_map};
+    ghost use Rattle.lists.specs.Laying.{laid};
+    ghost use Rattle.sequence.specs.Parts.{spliced, without, moved, removed, raised};
+    ghost use Rattle.sequence.specs.Pieces.{joined, piece_at, Lies, PiecesBecome, Room};
+    ghost use Rattle.sequence.specs.Answers.{range_answer, room_answer, resize_answer, view_answer};
+    ghost use Rattle.sequence.specs.Held.{held, room_for};
+
     /// An empty list that may hold as many entries as the slice has, or fewer.
     pub fn new(items: &'a mut [T], capacity: usize) -> Sequence<'a, T>
         ensures empty { held result ≡ [] }
@@ -20,7 +33,7 @@ impl<'a, T: Copy> Sequence<'a, T> {
     {
         let room = capacity.min(items.len());
         Sequence {
-            items: &mut items[0..room],
+            items: &mut items[..room],
             len: 0,
         }
     }
@@ -29,7 +42,7 @@ impl<'a, T: Copy> Sequence<'a, T> {
         ensures value { result ≡ length (held self.now) }
         ensures within { result ≤ room_for self.now }
     {
-        length_up_to(self.items, self.len)
+        self.entries().len()
     }
 
     pub fn capacity(&self) -> usize
@@ -42,74 +55,56 @@ impl<'a, T: Copy> Sequence<'a, T> {
     pub fn get(&self, n: usize) -> Option<T>
         ensures { result ≡ slice_get (held self.now) n }
     {
-        if n < self.len() {
-            Some(self.read(n))
-        } else {
-            None
-        }
+        self.entries().get(n).copied()
     }
 
     /// Adds an entry behind the last, unless the list is full.
-    pub fn push(&mut self, entry: T) -> bool
-        ensures told { result ≡ nat_lt (length (held self.old)) (room_for self.old) }
-        ensures holds { held self.new ≡ (if result then held self.old ++ entry ∷ [] else held self.old) }
+    pub fn push(&mut self, entry: T) -> Result<(), SequenceError>
+        ensures told { result ≡ room_answer (length (held self.old) + 1) (room_for self.old) }
+        ensures holds { OnOk result (held self.new ≡ held self.old ++ entry ∷ []) }
         ensures room { room_for self.new ≡ room_for self.old }
-        ensures refused { result ≡ false → self.new ≡ self.old }
+        ensures refused { OnErr result (self.new ≡ self.old) }
     {
-        let len = self.len();
-        if lies_within(len, 1, self.capacity()) {
-            self.append(len, entry);
-            true
-        } else {
-            false
+        if self.len == self.items.len() {
+            return Err(SequenceError::Full);
         }
+        self.items[self.len] = entry;
+        self.len += 1;
+        Ok(())
     }
 
+    // not `write_at` of one entry: of a slice made of one `T` it is not known that it fits in memory
     /// Puts another entry in the place of the one at a number, if there is one.
-    pub fn replace(&mut self, n: usize, entry: T) -> bool
-        ensures told { result ≡ nat_lt n (length (held self.old)) }
+    #[tactic(auto, using(crate::proofs::FrontLaws::front_set))]
+    pub fn replace(&mut self, n: usize, entry: T) -> Result<(), SequenceError>
+        ensures told { result ≡ range_answer n 1 (length (held self.old)) }
         ensures holds { held self.new ≡ slice_set (held self.old) n entry }
         ensures room { room_for self.new ≡ room_for self.old }
-        ensures refused { result ≡ false → self.new ≡ self.old }
+        ensures refused { OnErr result (self.new ≡ self.old) }
     {
-        if n < self.len() {
-            self.write(n, entry);
-            true
-        } else {
-            false
-        }
+        self.check_range(n, 1)?;
+        self.items[n] = entry;
+        Ok(())
     }
 
     /// Removes the entry at a number, if there is one; later ones move down by one.
-    pub fn remove(&mut self, n: usize) -> bool
-        ensures told { result ≡ nat_lt n (length (held self.old)) }
+    pub fn remove(&mut self, n: usize) -> Result<(), SequenceError>
+        ensures told { result ≡ range_answer n 1 (length (held self.old)) }
         ensures holds { held self.new ≡ removed n (held self.old) }
         ensures room { room_for self.new ≡ room_for self.old }
-        ensures refused { result ≡ false → self.new ≡ self.old }
+        ensures refused { OnErr result (self.new ≡ self.old) }
     {
-        let len = self.len();
-        if n < len {
-            self.cut(n, len);
-            true
-        } else {
-            false
-        }
+        self.take_out(n, 1)
     }
 
     /// Makes the entry at a number the last, if there is one; the others keep their order.
-    pub fn raise(&mut self, n: usize) -> bool
-        ensures told { result ≡ nat_lt n (length (held self.old)) }
+    pub fn raise(&mut self, n: usize) -> Result<(), SequenceError>
+        ensures told { result ≡ range_answer n 1 (length (held self.old)) }
         ensures holds { held self.new ≡ raised n (held self.old) }
         ensures room { room_for self.new ≡ room_for self.old }
-        ensures refused { result ≡ false → self.new ≡ self.old }
+        ensures refused { OnErr result (self.new ≡ self.old) }
     {
-        let end = self.len();
-        if n < end {
-            self.turn(n, end);
-            true
-        } else {
-            false
-        }
+        self.move_to_end(n, 1)
     }
 
     pub fn clear(&mut self)
@@ -119,54 +114,109 @@ impl<'a, T: Copy> Sequence<'a, T> {
         self.len = 0;
     }
 
-    /// The entry at a place of the memory.
-    fn read(&self, place: usize) -> T
-        requires { place < room_for self.now }
-        ensures { result ≡ slice_index_or self.now.items.now place result }
+    /// The entries of a range, where it lies within them.
+    pub fn view(&self, place: usize, count: usize) -> Option<&[T]>
+        ensures told { option_map (λ x. x.now) result ≡ view_answer place count (held self.now) }
+        ensures piece { (ps : List (List T)) (n : ℕ) → Lies ps n (held self.now) place count
+            → option_map (λ x. x.now) result ≡ Some (piece_at n ps) }
     {
-        let items: &[T] = self.items;
-        items[place]
+        let end = place.checked_add(count)?;
+        self.entries().get(place..end)
     }
 
-    /// Writes an entry at a place of the memory.
-    fn write(&mut self, place: usize, entry: T)
-        requires { place < room_for self.old }
-        ensures items { self.new.items.now ≡ slice_set self.old.items.now place entry }
-        ensures len { self.new.len ≡ self.old.len }
-    {
-        self.items[place] = entry;
-    }
-
-    /// Writes an entry behind so many first ones, and counts it with them.
-    fn append(&mut self, len: usize, entry: T)
-        requires { len < room_for self.old }
-        ensures items { self.new.items.now ≡ slice_set self.old.items.now len entry }
-        ensures len { self.new.len ≡ len + 1 }
-    {
-        self.write(len, entry);
-        self.len = len + 1;
-    }
-
-    /// Moves an entry behind the others of so many first ones.
-    fn turn(&mut self, place: usize, end: usize)
-        requires within { place < end }
-        requires there { end ≤ room_for self.old }
-        ensures items { self.new.items.now ≡ turned place 1 end self.old.items.now }
-        ensures len { self.new.len ≡ self.old.len }
+    /// Makes room for so many entries in the place of a range; those behind it move.
+    ///
+    /// Refused where the range is not within the entries, or the room is not there. What the new
+    /// room holds is not said.
+    pub fn resize_range(
+        &mut self,
+        place: usize,
+        old_count: usize,
+        new_count: usize,
+    ) -> Result<(), SequenceError>
+        ensures told { result
+            ≡ resize_answer place old_count new_count (length (held self.old)) (room_for self.old) }
+        ensures holds { OnOk result (Room new_count
+            (λ gap. held self.new ≡ spliced place old_count gap (held self.old))) }
+        ensures pieces { OnOk result ((ps : List (List T)) (n : ℕ)
+            → Lies ps n (held self.old) place old_count
+            → Room new_count (λ gap. held self.new ≡ joined (slice_set ps n gap))) }
+        ensures added { OnOk result ((ps : List (List T))
+            → joined ps ≡ held self.old → place ≡ length (held self.old)
+            → Room new_count (λ gap. held self.new ≡ joined (ps ++ gap ∷ []))) }
         ensures room { room_for self.new ≡ room_for self.old }
+        ensures refused { OnErr result (self.new ≡ self.old) }
     {
-        move_behind(self.items, place, 1, end);
+        self.check_range(place, old_count)?;
+        let rest = self.len - old_count;
+        if !lies_within(rest, new_count, self.items.len()) {
+            return Err(SequenceError::Full);
+        }
+        let tail = place + old_count..self.len;
+        self.items.copy_within(tail, place + new_count);
+        self.len = rest + new_count;
+        Ok(())
     }
 
-    /// Moves an entry behind the others of so many first ones, and counts it no more.
-    fn cut(&mut self, place: usize, len: usize)
-        requires within { place < len }
-        requires there { len ≤ room_for self.old }
-        ensures items { self.new.items.now ≡ turned place 1 len self.old.items.now }
-        ensures len { self.new.len ≡ len - 1 }
+    /// Writes entries over those from a place on, where these are held.
+    #[tactic(auto, using(crate::proofs::FrontLaws::front_laid))]
+    pub fn write_at(&mut self, place: usize, entries: &[T]) -> Result<(), SequenceError>
+        ensures told { result ≡ range_answer place (length entries.now) (length (held self.old)) }
+        ensures holds { OnOk result (held self.new ≡ laid (held self.old) place entries.now) }
+        ensures pieces { PiecesBecome (held self.old) place (length entries.now) result (held self.new)
+            (λ ps n. slice_set ps n entries.now) }
         ensures room { room_for self.new ≡ room_for self.old }
+        ensures refused { OnErr result (self.new ≡ self.old) }
     {
-        move_behind(self.items, place, 1, len);
-        self.len = len - 1;
+        self.check_range(place, entries.len())?;
+        self.items[place..place + entries.len()].copy_from_slice(entries);
+        Ok(())
+    }
+
+    /// Takes out a range, where it lies within the entries; those behind it move down.
+    #[tactic(auto, using(crate::proofs::FrontLaws::front_fewer))]
+    pub fn take_out(&mut self, place: usize, count: usize) -> Result<(), SequenceError>
+        ensures told { result ≡ range_answer place count (length (held self.old)) }
+        ensures holds { OnOk result (held self.new ≡ without place count (held self.old)) }
+        ensures pieces { PiecesBecome (held self.old) place count result (held self.new)
+            (λ ps n. removed n ps) }
+        ensures room { room_for self.new ≡ room_for self.old }
+        ensures refused { OnErr result (self.new ≡ self.old) }
+    {
+        self.move_to_end(place, count)?;
+        self.len -= count;
+        Ok(())
+    }
+
+    /// Moves a range behind the other entries, where it lies within them.
+    pub fn move_to_end(&mut self, place: usize, count: usize) -> Result<(), SequenceError>
+        ensures told { result ≡ range_answer place count (length (held self.old)) }
+        ensures holds { OnOk result (held self.new ≡ moved place count (held self.old)) }
+        ensures pieces { PiecesBecome (held self.old) place count result (held self.new)
+            (λ ps n. raised n ps) }
+        ensures room { room_for self.new ≡ room_for self.old }
+        ensures refused { OnErr result (self.new ≡ self.old) }
+    {
+        self.check_range(place, count)?;
+        move_behind(self.items, place, count, self.len);
+        Ok(())
+    }
+
+    /// The entries, first to last.
+    fn entries(&self) -> &[T]
+        ensures { result.now ≡ held self.now }
+    {
+        &self.items[..self.len]
+    }
+
+    /// Refuses a range that does not lie within the entries.
+    fn check_range(&self, place: usize, count: usize) -> Result<(), SequenceError>
+        ensures { result ≡ range_answer place count self.now.len }
+    {
+        if lies_within(place, count, self.len) {
+            Ok(())
+        } else {
+            Err(SequenceError::OutOfRange)
+        }
     }
 }

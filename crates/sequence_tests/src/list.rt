@@ -1,4 +1,4 @@
-use sequence::Sequence;
+use sequence::{Sequence, SequenceError};
 use std::process::Abort;
 
 fn check_held(rt: &impl Abort, list: &Sequence<'_, u16>, entries: &[u16]) {
@@ -14,10 +14,10 @@ fn no_memory_holds_nothing(rt: HostRuntime) {
     let mut items: [u16; 0] = [];
     let mut list = Sequence::new(&mut items, 4);
     assert_eq!(rt; list.capacity(), 0);
-    assert!(rt; !list.push(7));
-    assert!(rt; !list.replace(0, 7));
-    assert!(rt; !list.remove(0));
-    assert!(rt; !list.raise(0));
+    assert_eq!(rt; list.push(7), Err(SequenceError::Full));
+    assert_eq!(rt; list.replace(0, 7), Err(SequenceError::OutOfRange));
+    assert_eq!(rt; list.remove(0), Err(SequenceError::OutOfRange));
+    assert_eq!(rt; list.raise(0), Err(SequenceError::OutOfRange));
     list.clear();
     check_held(&rt, &list, &[]);
 }
@@ -27,7 +27,7 @@ fn no_capacity_holds_nothing(rt: HostRuntime) {
     let mut items = [1, 2, 3];
     let mut list = Sequence::new(&mut items, 0);
     assert_eq!(rt; list.capacity(), 0);
-    assert!(rt; !list.push(7));
+    assert_eq!(rt; list.push(7), Err(SequenceError::Full));
     check_held(&rt, &list, &[]);
 }
 
@@ -37,18 +37,18 @@ fn one_place_holds_one_entry(rt: HostRuntime) {
     let mut list = Sequence::new(&mut items, 1);
     assert_eq!(rt; list.capacity(), 1);
     check_held(&rt, &list, &[]);
-    assert!(rt; list.push(7));
-    assert!(rt; !list.push(8));
+    assert_eq!(rt; list.push(7), Ok(()));
+    assert_eq!(rt; list.push(8), Err(SequenceError::Full));
     check_held(&rt, &list, &[7]);
-    assert!(rt; list.raise(0));
-    assert!(rt; !list.raise(1));
-    assert!(rt; list.replace(0, 9));
-    assert!(rt; !list.replace(1, 5));
+    assert_eq!(rt; list.raise(0), Ok(()));
+    assert_eq!(rt; list.raise(1), Err(SequenceError::OutOfRange));
+    assert_eq!(rt; list.replace(0, 9), Ok(()));
+    assert_eq!(rt; list.replace(1, 5), Err(SequenceError::OutOfRange));
     check_held(&rt, &list, &[9]);
-    assert!(rt; !list.remove(1));
-    assert!(rt; list.remove(0));
+    assert_eq!(rt; list.remove(1), Err(SequenceError::OutOfRange));
+    assert_eq!(rt; list.remove(0), Ok(()));
     check_held(&rt, &list, &[]);
-    assert!(rt; list.push(4));
+    assert_eq!(rt; list.push(4), Ok(()));
     list.clear();
     check_held(&rt, &list, &[]);
 }
@@ -59,21 +59,21 @@ fn a_full_list_keeps_its_order(rt: HostRuntime) {
     let mut list = Sequence::new(&mut items, 9);
     assert_eq!(rt; list.capacity(), 4);
     for entry in [10, 20, 30, 40] {
-        assert!(rt; list.push(entry));
+        assert_eq!(rt; list.push(entry), Ok(()));
     }
-    assert!(rt; !list.push(50));
+    assert_eq!(rt; list.push(50), Err(SequenceError::Full));
     check_held(&rt, &list, &[10, 20, 30, 40]);
-    assert!(rt; list.raise(1));
+    assert_eq!(rt; list.raise(1), Ok(()));
     check_held(&rt, &list, &[10, 30, 40, 20]);
-    assert!(rt; list.raise(3));
+    assert_eq!(rt; list.raise(3), Ok(()));
     check_held(&rt, &list, &[10, 30, 40, 20]);
-    assert!(rt; list.remove(0));
+    assert_eq!(rt; list.remove(0), Ok(()));
     check_held(&rt, &list, &[30, 40, 20]);
-    assert!(rt; list.replace(1, 41));
-    assert!(rt; list.push(60));
-    assert!(rt; !list.push(70));
+    assert_eq!(rt; list.replace(1, 41), Ok(()));
+    assert_eq!(rt; list.push(60), Ok(()));
+    assert_eq!(rt; list.push(70), Err(SequenceError::Full));
     check_held(&rt, &list, &[30, 41, 20, 60]);
-    assert!(rt; list.remove(3));
-    assert!(rt; !list.remove(3));
+    assert_eq!(rt; list.remove(3), Ok(()));
+    assert_eq!(rt; list.remove(3), Err(SequenceError::OutOfRange));
     check_held(&rt, &list, &[30, 41, 20]);
 }

@@ -1,42 +1,42 @@
 use super::dice::{next, pick};
-use sequence::Sequence;
+use sequence::{Sequence, SequenceError};
 use std::process::Abort;
 use std::test::Fail;
 
-fn push(model: &mut Vec<u32>, capacity: usize, entry: u32) -> Result<bool, Fail> {
+// What a list would answer, or no memory for the vector.
+type Told = Result<Result<(), SequenceError>, Fail>;
+
+fn push(model: &mut Vec<u32>, capacity: usize, entry: u32) -> Told {
     if model.len() == capacity {
-        return Ok(false);
+        return Ok(Err(SequenceError::Full));
     }
     model.push(entry)?;
-    Ok(true)
+    Ok(Ok(()))
 }
 
-fn replace(model: &mut Vec<u32>, n: usize, entry: u32) -> bool {
-    if n < model.len() {
-        model[n] = entry;
-        true
-    } else {
-        false
+fn replace(model: &mut Vec<u32>, n: usize, entry: u32) -> Result<(), SequenceError> {
+    if n >= model.len() {
+        return Err(SequenceError::OutOfRange);
     }
+    model[n] = entry;
+    Ok(())
 }
 
-fn remove(model: &mut Vec<u32>, n: usize) -> bool {
-    if n < model.len() {
-        model.remove(n);
-        true
-    } else {
-        false
+fn remove(model: &mut Vec<u32>, n: usize) -> Result<(), SequenceError> {
+    if n >= model.len() {
+        return Err(SequenceError::OutOfRange);
     }
+    model.remove(n);
+    Ok(())
 }
 
-fn raise(model: &mut Vec<u32>, n: usize) -> Result<bool, Fail> {
-    if n < model.len() {
-        let entry = model.remove(n);
-        model.push(entry)?;
-        Ok(true)
-    } else {
-        Ok(false)
+fn raise(model: &mut Vec<u32>, n: usize) -> Told {
+    if n >= model.len() {
+        return Ok(Err(SequenceError::OutOfRange));
     }
+    let entry = model.remove(n);
+    model.push(entry)?;
+    Ok(Ok(()))
 }
 
 fn call(
@@ -47,30 +47,18 @@ fn call(
 ) -> Result<(), Fail> {
     let n = pick(seed, 8) as usize;
     match pick(seed, 16) {
-        0..=5 => {
-            assert_eq!(rt; list.push(seed), push(model, list.capacity(), seed)?);
-            Ok(())
-        },
-        6..=8 => {
-            assert_eq!(rt; list.replace(n, seed), replace(model, n, seed));
-            Ok(())
-        },
-        9..=11 => {
-            assert_eq!(rt; list.raise(n), raise(model, n)?);
-            Ok(())
-        },
-        12..=14 => {
-            assert_eq!(rt; list.remove(n), remove(model, n));
-            Ok(())
-        },
+        0..=5 => assert_eq!(rt; list.push(seed), push(model, list.capacity(), seed)?),
+        6..=8 => assert_eq!(rt; list.replace(n, seed), replace(model, n, seed)),
+        9..=11 => assert_eq!(rt; list.raise(n), raise(model, n)?),
+        12..=14 => assert_eq!(rt; list.remove(n), remove(model, n)),
         _ => {
             if pick(seed, 20) == 0 {
                 list.clear();
                 model.clear();
             }
-            Ok(())
         }
     }
+    Ok(())
 }
 
 fn check_same(rt: &impl Abort, list: &Sequence<'_, u32>, model: &Vec<u32>) {

@@ -1,6 +1,6 @@
 use super::dice::{next, pick};
 use super::store::shows;
-use sequence::ByteStore;
+use sequence::{ByteStore, SequenceError};
 use std::alloc::Global;
 use std::process::Abort;
 use std::test::Fail;
@@ -28,8 +28,26 @@ fn spliced(
     Ok(after)
 }
 
-fn lies_within(model: &[u8], place: usize, count: usize) -> bool {
-    place <= model.len() && count <= model.len() - place
+// Whether a range lies within the vector, told as a store would.
+fn check_range(model: &[u8], place: usize, count: usize) -> Result<(), SequenceError> {
+    match model.len().checked_sub(place) {
+        Some(behind) if count <= behind => Ok(()),
+        _ => Err(SequenceError::OutOfRange),
+    }
+}
+
+// Whether so many bytes have room in the place of others.
+fn check_room(
+    model: &[u8],
+    capacity: usize,
+    old_count: usize,
+    new_count: usize,
+) -> Result<(), SequenceError> {
+    if new_count <= capacity.saturating_sub(model.len().saturating_sub(old_count)) {
+        Ok(())
+    } else {
+        Err(SequenceError::Full)
+    }
 }
 
 // Room for some equal bytes in the place of a range, and then these bytes.
@@ -42,16 +60,17 @@ fn put(
     bytes: &[u8],
 ) -> Result<Vec<u8>, Fail> {
     let (place, count) = range;
-    let room = lies_within(model, place, count)
-        && bytes.len()
-            <= store
-                .capacity()
-                .saturating_sub(model.len().saturating_sub(count));
-    assert_eq!(rt; store.resize_range(place, count, bytes.len()), room);
-    if !room {
+    let told = check_range(model, place, count).and_then(|_| check_room(
+        model,
+        store.capacity(),
+        count,
+        bytes.len(),
+    ));
+    assert_eq!(rt; store.resize_range(place, count, bytes.len()), told);
+    if told.is_err() {
         return spliced(heap, model, 0, 0, b"");
     }
-    assert!(rt; store.write_at(place, bytes));
+    assert_eq!(rt; store.write_at(place, bytes), Ok(()));
     spliced(heap, model, place, count, bytes)
 }
 
@@ -63,9 +82,9 @@ fn take_out(
     range: (usize, usize),
 ) -> Result<Vec<u8>, Fail> {
     let (place, count) = range;
-    let within = lies_within(model, place, count);
-    assert_eq!(rt; store.take_out(place, count), within);
-    let count = if within { count } else { 0 };
+    let told = check_range(model, place, count);
+    assert_eq!(rt; store.take_out(place, count), told);
+    let count = if told.is_ok() { count } else { 0 };
     spliced(heap, model, place, count, b"")
 }
 
@@ -77,9 +96,9 @@ fn move_to_end(
     range: (usize, usize),
 ) -> Result<Vec<u8>, Fail> {
     let (place, count) = range;
-    let within = lies_within(model, place, count);
-    assert_eq!(rt; store.move_to_end(place, count), within);
-    if !within {
+    let told = check_range(model, place, count);
+    assert_eq!(rt; store.move_to_end(place, count), told);
+    if told.is_err() {
         return spliced(heap, model, 0, 0, b"");
     }
     let mut after = spliced(heap, model, place, count, b"")?;
@@ -112,7 +131,7 @@ fn call(
 }
 
 fn check_same(rt: &impl Abort, store: &ByteStore<'_>, model: &[u8]) {
-    assert_eq!(rt; store.used(), model.len());
+    assert_eq!(rt; store.len(), model.len());
     assert!(rt; shows(store, 0, model.len(), model));
 }
 

@@ -1,12 +1,13 @@
+use super::failure::Failure;
 use super::one_line::one_line;
-use super::refusal_line::print_refusal;
 use message::{CarriedItems, Contents, read_carried};
 use std::io;
 
+// as a field's line, no Display
 fn print_carried(rt: &HostRuntime, carried: &CarriedItems) -> io::Result<()> {
     let id = one_line(rt.alloc(), &carried.id)?;
     let version = one_line(rt.alloc(), &carried.version)?;
-    let length = carried.body_length;
+    let length = carried.body.bytes.len();
     println!(rt; "carried {id} version {version} length {length}")
 }
 
@@ -15,17 +16,15 @@ pub(crate) fn print_carried_records(
     rt: &HostRuntime,
     message: &[u8],
     contents: &Contents,
-) -> io::Result<()> {
+) -> Result<(), Failure> {
+    // by number and place, as the fields
     let mut place = contents.layout_end;
-    let mut room = contents.carried_bytes;
-    for number in 2..contents.carried_records.saturating_add(2) {
-        let carried = match read_carried(message, room, number, place) {
-            Ok(carried) => carried,
-            Err(fault) => return print_refusal(rt, fault),
-        };
-        place = carried.body_place + carried.body_length;
-        room -= carried.body_length;
+    let mut room = contents.needs.bodies;
+    for number in 2..contents.needs.carried.saturating_add(2) {
+        let carried = read_carried(message, room, number, place)?;
         print_carried(rt, &carried)?;
+        place = carried.body.end();
+        room -= carried.body.bytes.len();
     }
     Ok(())
 }

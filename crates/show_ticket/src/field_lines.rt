@@ -1,11 +1,12 @@
+use super::failure::Failure;
 use super::one_line::one_line;
-use super::refusal_line::print_refusal;
 use field::Rectangle;
 use message::{Contents, FieldItems, read_field};
 use std::io;
 use text_code::Utf8;
 
-fn print_field(rt: &HostRuntime, field: &FieldItems, text: &[u8]) -> io::Result<()> {
+// a line of this program alone, so no Display of the library's type
+fn print_field(rt: &HostRuntime, field: &FieldItems) -> io::Result<()> {
     let Rectangle {
         line,
         column,
@@ -13,7 +14,7 @@ fn print_field(rt: &HostRuntime, field: &FieldItems, text: &[u8]) -> io::Result<
         width,
     } = field.rectangle;
     let formatting = field.formatting.value;
-    let text = one_line(rt.alloc(), text)?;
+    let text = one_line(rt.alloc(), field.text.bytes)?;
     println!(rt;
         "field line {line} column {column} height {height} width {width} formatting {formatting} text {text}"
     )
@@ -24,18 +25,15 @@ pub(crate) fn print_fields(
     rt: &HostRuntime,
     message: &[u8],
     contents: &Contents,
-) -> io::Result<()> {
+) -> Result<(), Failure> {
+    // by number and place: one field's reader is told both, and ends where the next begins
     let mut place = 73;
-    let mut room = contents.text_bytes;
-    for number in 0..contents.fields {
-        let field = match read_field(message, &Utf8, contents.layout_end, room, number, place) {
-            Ok(field) => field,
-            Err(fault) => return print_refusal(rt, fault),
-        };
-        let text_place = field.text_place;
-        place = text_place + field.text_length;
-        room -= field.text_length;
-        print_field(rt, &field, &message[text_place..place])?;
+    let mut room = contents.needs.texts;
+    for number in 0..contents.needs.fields {
+        let field = read_field(message, &Utf8, contents.layout_end, room, number, place)?;
+        print_field(rt, &field)?;
+        place = field.text.end();
+        room -= field.text.bytes.len();
     }
     Ok(())
 }

@@ -2,29 +2,34 @@
 #![tactic(auto)]
 
 mod carried_lines;
+mod failure;
 mod field_lines;
-mod head_lines;
-mod input;
 mod one_line;
-mod refusal_line;
 
 use carried_lines::print_carried_records;
+use failure::Failure;
 use field_lines::print_fields;
-use head_lines::print_head;
-use input::read_input;
-use message::{Limits, read_message};
-use refusal_line::print_refusal;
+use message::read_message;
+use refusal::Refusal;
+use show_parts::{HeadLines, read_front};
 use std::io;
 use text_code::Utf8;
+use ticket::Room;
+
+fn print_ticket(rt: &HostRuntime, message: &[u8]) -> Result<(), Failure> {
+    let contents = read_message(message, &Utf8, Room::largest())?;
+    rt.println(HeadLines {
+        items: contents.head.items(),
+    })?;
+    print_fields(rt, message, &contents)?;
+    print_carried_records(rt, message, &contents)
+}
 
 fn main(rt: HostRuntime) -> io::Result<()> {
-    let message = read_input(&rt)?;
-    match read_message(&message, &Utf8, Limits::largest()) {
-        Ok(contents) => {
-            print_head(&rt, &contents.head.items())?;
-            print_fields(&rt, &message, &contents)?;
-            print_carried_records(&rt, &message, &contents)
-        }
-        Err(fault) => print_refusal(&rt, fault),
+    let message = read_front(rt.alloc(), rt.stdin())?;
+    match print_ticket(&rt, &message) {
+        Ok(()) => Ok(()),
+        Err(Failure::Refused(fault)) => rt.println(Refusal::from(fault)),
+        Err(Failure::Output(error)) => Err(error),
     }
 }

@@ -1,60 +1,81 @@
 -- Checking a text from left to right, in any code.
-use Rattle.std.proofs.Common.{◌≡◌, ℕ, ◌+◌, ◌-◌, ◌<◌, ◌≤◌, true, false, List, [], ◌∷◌, ◌++◌, length, take, drop, Some, None, Ok, Err, Option, Result, sym, refl, ap, ◌∙◌, subst, inl, inr, ⊎_elim, arith, take-add}
+use Rattle.std.proofs.Common.{◌≡◌, ℕ, ◌+◌, ◌-◌, ◌<◌, ◌≤◌, true, false, ◌⊎◌, List, [], ◌∷◌, ◌++◌, length, take, drop, Some, None, Ok, Err, Option, Result, sym, refl, ap, ◌∙◌, subst, inl, inr, ⊎_elim, arith, take-add}
 use Rattle.std.proofs.ByRecursion.{All-drop, All-push}
-use Rattle.std.proofs.lemmas.List.{append_assoc, drop_at, length-drop, length_push, length-take-le, take_all, take-append-drop}
+use Rattle.std.proofs.lemmas.List.{append_assoc, append-nil, drop_at, length-append, length-drop, length_push, length-take-le, take_all, take-append-drop, take_at, take_rest}
 use Rattle.std.proofs.lemmas.Bool.{both_ways, cases_order}
 use Rattle.std.proofs.lemmas.Bool.Decides.{nat_tests}
 use Rattle.std.specs.List.{AllByRecursion}
 use Rattle.text_code.specs.declared.codes.Decoded.{Decoded}
+use Rattle.text_code.specs.declared.characters.CharacterFault.{CharacterFault}
 use Rattle.text_code.specs.declared.characters.Permitted.{Permitted}
 use Rattle.text_code.specs.Characters.{permits}
 use Rattle.text_code.specs.Reading.{Front, Text, Faulty, Checked, OnlyAnswer, permitted_front}
-use Rattle.text_code.specs.Spellings.{Begins, OneToFour, PrefixFree, Spelled, UniqueDecoding}
-use Rattle.text_code.proofs.Decoding.{spelled_parts, front_at, read_more, read_within, begins_some}
+use Rattle.text_code.specs.Spellings.{Begins, NoneBegins, OneToFour, PrefixFree, Spelled, UniqueDecoding}
+use Rattle.text_code.proofs.Decoding.{spelled_parts, spelled_one, spelled-append, begins_some}
 use Rattle.text_code.proofs.Unique.{begins, begins_same, spelled_rest, unique_decoding}
 
--- the bytes before a place are a text of n permitted characters
-pub record CheckedTo (f : ℕ → Option (List ℕ)) (p : Permitted) (bytes : List ℕ) (at n : ℕ) : Type 0 where
-  pub within : at ≤ length bytes
-  pub counted : n ≤ at
+-- what stands before the rest is a text of n permitted characters
+pub record CheckedTo (f : ℕ → Option (List ℕ)) (p : Permitted) (bytes rest : List ℕ) (n : ℕ) : Type 0 where
+  pub before : List ℕ
+  pub joined : bytes ≡ before ++ rest
+  pub counted : n + length rest ≤ length bytes
   pub characters : List ℕ
   pub number : length characters ≡ n
-  pub text : Text f p characters (take at bytes)
+  pub text : Text f p characters before
 
-pub checked_none : (f : ℕ → Option (List ℕ)) (p : Permitted) (bytes : List ℕ) → CheckedTo f p bytes 0 0
-checked_none f p bytes = record { within = omega arith; counted = omega arith; characters = []; number = refl; text = record { spelled = refl; permitted = tt } }
+pub checked_none : (f : ℕ → Option (List ℕ)) (p : Permitted) (bytes : List ℕ) → CheckedTo f p bytes bytes 0
+checked_none f p bytes = record { before = []; joined = refl; counted = omega arith; characters = []; number = refl; text = record { spelled = refl; permitted = tt } }
 
 what_read : (p : Permitted) (r : Option Decoded) (d : Decoded) → Some d ≡ permitted_front p r → (r ≡ Some d) × (permits p d.character ≡ true)
 what_read p None d e = let z : ◌≡◌ {A = ℕ} 0 1 = cc in absurd (omega arith)
 what_read p (Some x) d e = grind (arith, nat_tests)
 
--- a permitted character that was read at a place is spelled there
-pub begins_at : (f : ℕ → Option (List ℕ)) (p : Permitted) (bytes : List ℕ) (at : ℕ) (r : Option Decoded) (d : Decoded) → Front f (take (length bytes - at) (drop at bytes)) r → Some d ≡ permitted_front p r → Begins f d.character d.length (drop at bytes)
-begins_at f p bytes at r d front e = front_at f bytes at (Some d) (subst (Front f (take (length bytes - at) (drop at bytes))) (what_read p r d e).0 front)
+-- a permitted character that was read is spelled there
+begins_read : (f : ℕ → Option (List ℕ)) (p : Permitted) (rest : List ℕ) (r : Option Decoded) (d : Decoded) → Front f rest r → Some d ≡ permitted_front p r → Begins f d.character d.length rest
+begins_read f p rest r d front e = subst (Front f rest) (what_read p r d e).0 front
 
-pub checked_more : (f : ℕ → Option (List ℕ)) (p : Permitted) (bytes : List ℕ) (at n : ℕ) (r : Option Decoded) (d : Decoded) → OneToFour f → CheckedTo f p bytes at n → Front f (take (length bytes - at) (drop at bytes)) r → Some d ≡ permitted_front p r → CheckedTo f p bytes (at + d.length) (n + 1)
-checked_more f p bytes at n r d short l front e =
-    let b = begins_at f p bytes at r d front e in
-    record {
-      within = read_within f bytes at d.character d.length l.within b;
-      counted = omega (arith, begins_some f d.character d.length (drop at bytes) short b);
+-- and takes at least one byte
+pub read_long : (f : ℕ → Option (List ℕ)) (p : Permitted) (rest : List ℕ) (r : Option Decoded) (d : Decoded) → OneToFour f → Front f rest r → Some d ≡ permitted_front p r → (1 ≤ d.length) × (d.length ≤ length rest)
+read_long f p rest r d short front e =
+    let b = begins_read f p rest r d front e in
+    (begins_some f d.character d.length rest short b, b.within)
+
+pub checked_more : (f : ℕ → Option (List ℕ)) (p : Permitted) (bytes rest : List ℕ) (n : ℕ) (r : Option Decoded) (d : Decoded) → OneToFour f → CheckedTo f p bytes rest n → Front f rest r → Some d ≡ permitted_front p r → CheckedTo f p bytes (take (length rest - d.length) (drop d.length rest)) (n + 1)
+checked_more f p bytes rest n r d short l front e =
+    let b = begins_read f p rest r d front e in
+    let h = read_long f p rest r d short front e in
+    let first = take d.length rest in
+    subst (λ zs. CheckedTo f p bytes zs (n + 1)) (sym (take_rest rest d.length)) (record {
+      before = l.before ++ first;
+      joined = l.joined ∙ ap (λ zs. l.before ++ zs) (sym (take-append-drop d.length rest)) ∙ sym (append_assoc l.before first (drop d.length rest));
+      counted = omega (arith, l.counted, h, length-drop d.length rest);
       characters = l.characters ++ d.character ∷ [];
       number = length_push l.characters d.character ∙ ap (λ m. m + 1) l.number;
       text = record {
-        spelled = read_more f l.characters bytes at d.character d.length l.text.spelled b;
+        spelled = spelled-append f l.characters (d.character ∷ []) l.before first l.text.spelled (spelled_one f d.character first b.spells);
         permitted = All-push (λ c. permits p c ≡ true) l.characters d.character l.text.permitted (what_read p r d e).1;
       };
+    })
+
+pub checked_all : (f : ℕ → Option (List ℕ)) (p : Permitted) (bytes rest : List ℕ) (n : ℕ) → CheckedTo f p bytes rest n → length rest ≡ 0 → Checked f p bytes (Ok n)
+checked_all f p bytes [] n l none = (l.characters, subst (Text f p l.characters) (sym (l.joined ∙ append-nil l.before)) l.text, l.number)
+checked_all f p bytes (b ∷ rest) n l none = absurd (omega arith)
+
+-- nothing that was read at the front of the rest is permitted
+fault_of : (f : ℕ → Option (List ℕ)) (p : Permitted) (rest : List ℕ) (r : Option Decoded) → Front f rest r → None ≡ permitted_front p r → NoneBegins f rest ⊎ ((n : ℕ) × (k : ℕ) × Begins f n k rest × (permits p n ≡ false))
+fault_of f p rest None front e = inl front
+fault_of f p rest (Some d) front e = inr (d.character, d.length, front, grind (arith, nat_tests))
+
+pub faulty_at : (f : ℕ → Option (List ℕ)) (p : Permitted) (bytes rest : List ℕ) (n : ℕ) (r : Option Decoded) → CheckedTo f p bytes rest n → 0 < length rest → Front f rest r → None ≡ permitted_front p r → Faulty f p bytes (length bytes - length rest)
+faulty_at f p bytes rest n r l h front e =
+    let long : length l.before ≡ length bytes - length rest = omega (arith, ap length l.joined ∙ length-append l.before rest) in
+    let front_is : l.before ≡ take (length bytes - length rest) bytes = sym (take_at l.before rest (length l.before) refl) ∙ ap (take (length l.before)) (sym l.joined) ∙ ap (λ n. take n bytes) long in
+    let rest_is : rest ≡ drop (length bytes - length rest) bytes = sym (drop_at l.before rest (length l.before) refl) ∙ ap (drop (length l.before)) (sym l.joined) ∙ ap (λ n. drop n bytes) long in
+    record {
+      within = omega (arith, ap length l.joined ∙ length-append l.before rest);
+      before = (l.characters, subst (Text f p l.characters) front_is l.text);
+      fault = subst (λ zs. NoneBegins f zs ⊎ ((n : ℕ) × (k : ℕ) × Begins f n k zs × (permits p n ≡ false))) rest_is (fault_of f p rest r front e);
     }
-
-pub checked_all : (f : ℕ → Option (List ℕ)) (p : Permitted) (bytes : List ℕ) (at n : ℕ) → CheckedTo f p bytes at n → length bytes ≤ at → Checked f p bytes (Ok n)
-checked_all f p bytes at n l end = (l.characters, subst (Text f p l.characters) (take_all at bytes end) l.text, l.number)
-
--- nothing that was read at a place is permitted
-pub faulty_at : (f : ℕ → Option (List ℕ)) (p : Permitted) (bytes : List ℕ) (at n : ℕ) (r : Option Decoded) → CheckedTo f p bytes at n → at < length bytes → Front f (take (length bytes - at) (drop at bytes)) r → None ≡ permitted_front p r → Faulty f p bytes at
-faulty_at f p bytes at n None l h front e = record { within = h; before = (l.characters, l.text); fault = inl (front_at f bytes at None front) }
-faulty_at f p bytes at n (Some d) l h front e =
-    let forbidden : permits p d.character ≡ false = grind (arith, nat_tests) in
-    record { within = h; before = (l.characters, l.text); fault = inr (d.character, d.length, front_at f bytes at (Some d) front, forbidden) }
 
 -- at a fault no permitted character stands
 none_stands : (f : ℕ → Option (List ℕ)) (p : Permitted) (bytes : List ℕ) (place n k : ℕ) → PrefixFree f → Faulty f p bytes place → Begins f n k (drop place bytes) → permits p n ≡ true → ⊥
@@ -85,23 +106,23 @@ stuck f p bytes cs place end short apart w t past within =
 whole : (f : ℕ → Option (List ℕ)) (p : Permitted) (bytes cs : List ℕ) → Text f p cs bytes → Text f p cs (take (length bytes) bytes)
 whole f p bytes cs t = subst (Text f p cs) (sym (take_all (length bytes) bytes (omega arith))) t
 
-pub only_answer : (f : ℕ → Option (List ℕ)) (p : Permitted) (bytes : List ℕ) (r : Result ℕ ℕ) → OneToFour f → PrefixFree f → Checked f p bytes r → OnlyAnswer f p bytes r
+pub only_answer : (f : ℕ → Option (List ℕ)) (p : Permitted) (bytes : List ℕ) (r : Result ℕ CharacterFault) → OneToFour f → PrefixFree f → Checked f p bytes r → OnlyAnswer f p bytes r
 only_answer f p bytes (Ok n) short apart (cs, t, e) (Ok m) (ds, u, d) = ap Ok (sym d ∙ ap length (unique_decoding f short apart ds cs bytes u.spelled t.spelled) ∙ e)
-only_answer f p bytes (Ok n) short apart (cs, t, e) (Err place) w =
-    absurd (stuck f p bytes cs place (length bytes) short apart w (whole f p bytes cs t) w.within (omega arith))
-only_answer f p bytes (Err place) short apart w (Ok n) (cs, t, e) =
-    absurd (stuck f p bytes cs place (length bytes) short apart w (whole f p bytes cs t) w.within (omega arith))
-only_answer f p bytes (Err place) short apart w (Err other) v =
-    ⊎_elim (λ h. ap Err (sym h))
-    (⊎_elim (λ h. absurd (stuck f p bytes v.before.0 place other short apart w v.before.1 h (omega (arith, v.within))))
-    (λ h. absurd (stuck f p bytes w.before.0 other place short apart v w.before.1 h (omega (arith, w.within)))))
-    (cases_order place other)
+only_answer f p bytes (Ok n) short apart (cs, t, e) (Err fault) w =
+    absurd (stuck f p bytes cs fault.place (length bytes) short apart w (whole f p bytes cs t) w.within (omega arith))
+only_answer f p bytes (Err fault) short apart w (Ok n) (cs, t, e) =
+    absurd (stuck f p bytes cs fault.place (length bytes) short apart w (whole f p bytes cs t) w.within (omega arith))
+only_answer f p bytes (Err fault) short apart w (Err other) v =
+    ⊎_elim (λ h. ap (λ n. Err (record { place = n })) (sym h))
+    (⊎_elim (λ h. absurd (stuck f p bytes v.before.0 fault.place other.place short apart w v.before.1 h (omega (arith, v.within))))
+    (λ h. absurd (stuck f p bytes w.before.0 other.place fault.place short apart v w.before.1 h (omega (arith, w.within)))))
+    (cases_order fault.place other.place)
 
 -- an answer that is true, with what follows from the laws of the code
-pub record Promised (f : ℕ → Option (List ℕ)) (p : Permitted) (bytes : List ℕ) (r : Result ℕ ℕ) : Type 0 where
+pub record Promised (f : ℕ → Option (List ℕ)) (p : Permitted) (bytes : List ℕ) (r : Result ℕ CharacterFault) : Type 0 where
   pub answer : Checked f p bytes r
   pub only : OnlyAnswer f p bytes r
   pub unique : UniqueDecoding f
 
-pub promised : (f : ℕ → Option (List ℕ)) (p : Permitted) (bytes : List ℕ) (r : Result ℕ ℕ) → OneToFour f → PrefixFree f → Checked f p bytes r → Promised f p bytes r
+pub promised : (f : ℕ → Option (List ℕ)) (p : Permitted) (bytes : List ℕ) (r : Result ℕ CharacterFault) → OneToFour f → PrefixFree f → Checked f p bytes r → Promised f p bytes r
 promised f p bytes r short apart a = record { answer = a; only = only_answer f p bytes r short apart a; unique = unique_decoding f short apart }

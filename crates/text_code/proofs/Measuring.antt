@@ -4,6 +4,7 @@ use Rattle.std.proofs.ByRecursion.{All-get_or, All-push}
 use Rattle.std.proofs.lemmas.List.{get_or-take, length-append, length-take-le, take_all, take_more}
 use Rattle.std.proofs.lemmas.Bool.{both_ways, cases_order}
 use Rattle.std.specs.Option.{option_map}
+use Rattle.text_code.specs.declared.characters.CharacterFault.{CharacterFault}
 use Rattle.text_code.specs.declared.characters.Permitted.{Permitted}
 use Rattle.text_code.specs.Characters.{permits}
 use Rattle.text_code.specs.Reading.{Text}
@@ -66,17 +67,17 @@ stuck f p cs bytes i j w t past within =
 whole : (f : ℕ → Option (List ℕ)) (p : Permitted) (cs bytes : List ℕ) → Text f p cs bytes → Text f p (take (length cs) cs) bytes
 whole f p cs bytes t = subst (λ zs. Text f p zs bytes) (sym (take_all (length cs) cs (omega arith))) t
 
-pub only_measure : (f : ℕ → Option (List ℕ)) (p : Permitted) (cs : List ℕ) (r : Result ℕ ℕ) → Measured f p cs r → OnlyMeasure f p cs r
+pub only_measure : (f : ℕ → Option (List ℕ)) (p : Permitted) (cs : List ℕ) (r : Result ℕ CharacterFault) → Measured f p cs r → OnlyMeasure f p cs r
 only_measure f p cs (Ok n) (bytes, t, e) (Ok m) (others, u, d) =
     let same : Some others ≡ Some bytes = sym u.spelled ∙ t.spelled in
     let x : others ≡ bytes = cc in ap Ok (sym d ∙ ap length x ∙ e)
-only_measure f p cs (Ok n) (bytes, t, e) (Err i) w = absurd (stuck f p cs bytes i (length cs) w (whole f p cs bytes t) w.within (omega arith))
-only_measure f p cs (Err i) w (Ok n) (bytes, t, e) = absurd (stuck f p cs bytes i (length cs) w (whole f p cs bytes t) w.within (omega arith))
-only_measure f p cs (Err i) w (Err j) v =
-    ⊎_elim (λ h. ap Err (sym h))
-    (⊎_elim (λ h. absurd (stuck f p cs v.before.0 i j w v.before.1 h (omega (arith, v.within))))
-    (λ h. absurd (stuck f p cs w.before.0 j i v w.before.1 h (omega (arith, w.within)))))
-    (cases_order i j)
+only_measure f p cs (Ok n) (bytes, t, e) (Err fault) w = absurd (stuck f p cs bytes fault.place (length cs) w (whole f p cs bytes t) w.within (omega arith))
+only_measure f p cs (Err fault) w (Ok n) (bytes, t, e) = absurd (stuck f p cs bytes fault.place (length cs) w (whole f p cs bytes t) w.within (omega arith))
+only_measure f p cs (Err fault) w (Err other) v =
+    ⊎_elim (λ h. ap (λ n. Err (record { place = n })) (sym h))
+    (⊎_elim (λ h. absurd (stuck f p cs v.before.0 fault.place other.place w v.before.1 h (omega (arith, v.within))))
+    (λ h. absurd (stuck f p cs w.before.0 other.place fault.place v w.before.1 h (omega (arith, w.within)))))
+    (cases_order fault.place other.place)
 
 unknown : (o : Option (List ℕ)) (ok : Bool) → None ≡ cond ok (option_map length o) None → (o ≡ None) ⊎ (ok ≡ false)
 unknown None ok e = inl refl

@@ -6,7 +6,7 @@ use Rattle.std.proofs.lemmas.Bool.Decides.{nat_tests}
 use Rattle.text_code.specs.Codes.{utf8, one_byte, two_bytes, three_bytes, four_bytes, continuation}
 use Rattle.text_code.specs.Reading.{Front}
 use Rattle.text_code.specs.Spellings.{Begins}
-use Rattle.text_code.specs.Utf8Forms.{and_then, bits_at, decoded, least_second, greatest_second, two_at, three_at, four_at, form_at}
+use Rattle.text_code.specs.Utf8Forms.{and_then, bits_at, decoded, least_second, greatest_second, long_at, form_at}
 use Rattle.text_code.specs.declared.codes.Decoded.{Decoded}
 use Rattle.text_code.proofs.Utf8Ranges.{utf8_one, utf8_two, utf8_three, utf8_four, Form, one, two, three, four, form}
 
@@ -51,16 +51,19 @@ told bytes n k d e h s =
     let at : record { character = n; length = k } ≡ d = cc in
     subst (Told bytes) at (record { within = h; spells = s })
 
-told_two : (bytes : List ℕ) (d : Decoded) → 194 ≤ get_or bytes 0 0 → get_or bytes 0 0 ≤ 223 → two_at bytes (get_or bytes 0 0) ≡ Some d → Told bytes d
+told_two : (bytes : List ℕ) (d : Decoded) → 194 ≤ get_or bytes 0 0 → get_or bytes 0 0 ≤ 223 → long_at bytes (get_or bytes 0 0) 192 2 ≡ Some d → Told bytes d
 told_two bytes d l h e =
-    let p = parts (bits_at bytes 1 128 191) _ d e in
-    let b = byte_from bytes 1 128 191 p.0 p.1 in
-    let n = (get_or bytes 0 0 - 192) * 64 + p.0 in
-    let first : 192 + n / 64 ≡ get_or bytes 0 0 = omega arith in
+    let a = get_or bytes 0 0 in
+    let p = parts (bits_at bytes 1 (least_second a) (greatest_second a)) _ d e in
+    let b = byte_from bytes 1 (least_second a) (greatest_second a) p.0 p.1 in
+    let n = (a - 192) * 64 + p.0 in
+    let low : 128 ≤ get_or bytes 1 0 = grind (arith, nat_tests) in
+    let high : get_or bytes 1 0 ≤ 191 = grind (arith, nat_tests) in
+    let first : 192 + n / 64 ≡ a = omega arith in
     let second : continuation n ≡ get_or bytes 1 0 = omega arith in
     told bytes n 2 d p.2 (omega arith) (utf8_two n (omega arith) (omega arith) ∙ ap Some (cc (first, second, take_two bytes (omega arith))))
 
-told_three : (bytes : List ℕ) (d : Decoded) → 224 ≤ get_or bytes 0 0 → get_or bytes 0 0 ≤ 239 → three_at bytes (get_or bytes 0 0) ≡ Some d → Told bytes d
+told_three : (bytes : List ℕ) (d : Decoded) → 224 ≤ get_or bytes 0 0 → get_or bytes 0 0 ≤ 239 → long_at bytes (get_or bytes 0 0) 224 3 ≡ Some d → Told bytes d
 told_three bytes d l h e =
     let a = get_or bytes 0 0 in
     let p = parts (bits_at bytes 1 (least_second a) (greatest_second a)) _ d e in
@@ -77,7 +80,7 @@ told_three bytes d l h e =
     let third : continuation n ≡ get_or bytes 2 0 = omega arith in
     told bytes n 3 d q.2 (omega arith) (utf8_three n long (omega arith) apart ∙ ap Some (cc (first, second, third, take_three bytes (omega arith))))
 
-told_four : (bytes : List ℕ) (d : Decoded) → 240 ≤ get_or bytes 0 0 → get_or bytes 0 0 ≤ 244 → four_at bytes (get_or bytes 0 0) ≡ Some d → Told bytes d
+told_four : (bytes : List ℕ) (d : Decoded) → 240 ≤ get_or bytes 0 0 → get_or bytes 0 0 ≤ 244 → long_at bytes (get_or bytes 0 0) 240 4 ≡ Some d → Told bytes d
 told_four bytes d l h e =
     let a = get_or bytes 0 0 in
     let p = parts (bits_at bytes 1 (least_second a) (greatest_second a)) _ d e in
@@ -102,15 +105,15 @@ form_one : (bytes : List ℕ) (a : ℕ) → a ≤ 127 → form_at bytes a ≡ de
 unfolding form_at
 form_one bytes a h = grind (arith, nat_tests)
 
-form_two : (bytes : List ℕ) (a : ℕ) → 194 ≤ a → a ≤ 223 → form_at bytes a ≡ two_at bytes a
+form_two : (bytes : List ℕ) (a : ℕ) → 194 ≤ a → a ≤ 223 → form_at bytes a ≡ long_at bytes a 192 2
 unfolding form_at
 form_two bytes a l h = grind (arith, nat_tests)
 
-form_three : (bytes : List ℕ) (a : ℕ) → 224 ≤ a → a ≤ 239 → form_at bytes a ≡ three_at bytes a
+form_three : (bytes : List ℕ) (a : ℕ) → 224 ≤ a → a ≤ 239 → form_at bytes a ≡ long_at bytes a 224 3
 unfolding form_at
 form_three bytes a l h = grind (arith, nat_tests)
 
-form_four : (bytes : List ℕ) (a : ℕ) → 240 ≤ a → a ≤ 244 → form_at bytes a ≡ four_at bytes a
+form_four : (bytes : List ℕ) (a : ℕ) → 240 ≤ a → a ≤ 244 → form_at bytes a ≡ long_at bytes a 240 4
 unfolding form_at
 form_four bytes a l h = grind (arith, nat_tests)
 
@@ -153,14 +156,16 @@ front_told bytes d e =
     ⊎_elim (λ h. form_told bytes d h (sym (front_some bytes h) ∙ e)) (λ h. never (utf8_front bytes) d (front_none bytes (omega arith)) e) (cases_lt 0 (length bytes))
 
 -- each spelling is found, whatever stands behind it
-two_found : (n : ℕ) (rest : List ℕ) → 128 ≤ n → n ≤ 2047 → two_at (two_bytes n ++ rest) (192 + n / 64) ≡ decoded n 2
+two_found : (n : ℕ) (rest : List ℕ) → 128 ≤ n → n ≤ 2047 → long_at (two_bytes n ++ rest) (192 + n / 64) 192 2 ≡ decoded n 2
 two_found n rest l h =
     let bytes = two_bytes n ++ rest in
-    let number : (192 + n / 64 - 192) * 64 + (128 + n % 64) % 64 ≡ n = omega arith in
-    ap (λ o. and_then o (λ second. decoded ((192 + n / 64 - 192) * 64 + second) 2)) (bits_at_lem bytes 1 128 191 (omega arith) (omega arith) (omega arith))
-    ∙ ap (λ m. decoded m 2) number
+    let a = 192 + n / 64 in
+    let second : bits_at bytes 1 (least_second a) (greatest_second a) ≡ Some ((128 + n % 64) % 64) =
+    bits_at_lem bytes 1 (least_second a) (greatest_second a) (omega arith) (grind (arith, nat_tests)) (grind (arith, nat_tests)) in
+    let number : (a - 192) * 64 + (128 + n % 64) % 64 ≡ n = omega arith in
+    rw (second, number)
 
-three_found : (n : ℕ) (rest : List ℕ) → 2048 ≤ n → n ≤ 65535 → (n < 55296) ⊎ (57343 < n) → three_at (three_bytes n ++ rest) (224 + n / 4096) ≡ decoded n 3
+three_found : (n : ℕ) (rest : List ℕ) → 2048 ≤ n → n ≤ 65535 → (n < 55296) ⊎ (57343 < n) → long_at (three_bytes n ++ rest) (224 + n / 4096) 224 3 ≡ decoded n 3
 three_found n rest l h apart =
     let bytes = three_bytes n ++ rest in
     let a = 224 + n / 4096 in
@@ -170,7 +175,7 @@ three_found n rest l h apart =
     let number : ((a - 224) * 64 + (128 + n / 64 % 64) % 64) * 64 + (128 + n % 64) % 64 ≡ n = omega arith in
     rw (second, third, number)
 
-four_found : (n : ℕ) (rest : List ℕ) → 65536 ≤ n → n ≤ 1114111 → four_at (four_bytes n ++ rest) (240 + n / 262144) ≡ decoded n 4
+four_found : (n : ℕ) (rest : List ℕ) → 65536 ≤ n → n ≤ 1114111 → long_at (four_bytes n ++ rest) (240 + n / 262144) 240 4 ≡ decoded n 4
 four_found n rest l h =
     let bytes = four_bytes n ++ rest in
     let a = 240 + n / 262144 in

@@ -2,6 +2,7 @@
 use Rattle.std.specs.Prelude.{◌≡◌, ℕ, ◌<◌, true, false, cond, ◌⊎◌, List, length, take, drop, Some, None, Ok, Err, Option, Result}
 use Rattle.std.specs.List.{AllByRecursion}
 use Rattle.text_code.specs.declared.codes.Decoded.{Decoded}
+use Rattle.text_code.specs.declared.characters.CharacterFault.{CharacterFault}
 use Rattle.text_code.specs.declared.characters.Permitted.{Permitted}
 use Rattle.text_code.specs.Characters.{permits}
 use Rattle.text_code.specs.Spellings.{Begins, NoneBegins, Spelled}
@@ -28,10 +29,10 @@ pub record Faulty (f : ℕ → Option (List ℕ)) (p : Permitted) (bytes : List 
   pub fault : NoneBegins f (drop place bytes) ⊎ ((n : ℕ) × (k : ℕ) × Begins f n k (drop place bytes) × (permits p n ≡ false))
 
 -- the number of characters of a text, or the place of the first that is not spelled or not permitted
-abbrev pub Checked : (ℕ → Option (List ℕ)) → Permitted → List ℕ → Result ℕ ℕ → Type 0
+abbrev pub Checked : (ℕ → Option (List ℕ)) → Permitted → List ℕ → Result ℕ CharacterFault → Type 0
 Checked f p bytes (Ok n) = (cs : List ℕ) × Text f p cs bytes × (length cs ≡ n)
-Checked f p bytes (Err place) = Faulty f p bytes place
+Checked f p bytes (Err fault) = Faulty f p bytes fault.place
 
 -- no other answer is true, so the bytes are accepted exactly when they spell some list of permitted characters
-abbrev pub OnlyAnswer : (ℕ → Option (List ℕ)) → Permitted → List ℕ → Result ℕ ℕ → Type 0
-OnlyAnswer f p bytes r = (q : Result ℕ ℕ) → Checked f p bytes q → q ≡ r
+abbrev pub OnlyAnswer : (ℕ → Option (List ℕ)) → Permitted → List ℕ → Result ℕ CharacterFault → Type 0
+OnlyAnswer f p bytes r = (q : Result ℕ CharacterFault) → Checked f p bytes q → q ≡ r

@@ -1,5 +1,5 @@
 -- How the front of some bytes is read in UTF-8: which byte may follow which.
-use Rattle.std.specs.Prelude.{ℕ, ◌+◌, ◌-◌, ◌*◌, ◌%◌, cond, ◌&&◌, List, length, Some, None, Option, ◌==◌, nat_le, nat_lt, slice_index}
+use Rattle.std.specs.Prelude.{ℕ, zero, suc, ◌+◌, ◌-◌, ◌*◌, ◌%◌, cond, ◌&&◌, List, length, Some, None, Option, ◌==◌, nat_le, nat_lt, slice_index}
 use Rattle.text_code.specs.declared.codes.Decoded.{Decoded}
 
 abbrev pub and_then : {A B : Type 0} → Option A → (A → Option B) → Option B
@@ -22,28 +22,23 @@ bits_at bytes place low high =
 abbrev pub decoded : ℕ → ℕ → Option Decoded
 decoded n k = Some (record { character = n; length = k })
 
-abbrev pub two_at : List ℕ → ℕ → Option Decoded
-two_at bytes first =
-    and_then (bits_at bytes 1 0x80 0xBF) (λ second.
-    decoded ((first - 0xC0) * 64 + second) 2)
+-- so many more bytes from a place on, each with six bits for a number that has come so far, in a form of n bytes
+abbrev pub rest_at : List ℕ → ℕ → ℕ → ℕ → ℕ → Option Decoded
+rest_at bytes n so_far place zero = decoded so_far n
+rest_at bytes n so_far place (suc more) =
+    and_then (bits_at bytes place 0x80 0xBF) (λ bits.
+    rest_at bytes n (so_far * 64 + bits) (place + 1) more)
 
-abbrev pub three_at : List ℕ → ℕ → Option Decoded
-three_at bytes first =
+-- a form of n bytes: the bits of the first byte above its lead, then six of each that follows
+abbrev pub long_at : List ℕ → ℕ → ℕ → ℕ → Option Decoded
+long_at bytes first lead n =
     and_then (bits_at bytes 1 (least_second first) (greatest_second first)) (λ second.
-    and_then (bits_at bytes 2 0x80 0xBF) (λ third.
-    decoded (((first - 0xE0) * 64 + second) * 64 + third) 3))
-
-abbrev pub four_at : List ℕ → ℕ → Option Decoded
-four_at bytes first =
-    and_then (bits_at bytes 1 (least_second first) (greatest_second first)) (λ second.
-    and_then (bits_at bytes 2 0x80 0xBF) (λ third.
-    and_then (bits_at bytes 3 0x80 0xBF) (λ fourth.
-    decoded ((((first - 0xF0) * 64 + second) * 64 + third) * 64 + fourth) 4)))
+    rest_at bytes n ((first - lead) * 64 + second) 2 (n - 2))
 
 -- the character of the form that a first byte begins, or none
 unfoldable pub form_at : List ℕ → ℕ → Option Decoded
 form_at bytes first =
     cond (nat_le first 0x7F) (decoded first 1)
-    (cond (nat_le 0xC2 first && nat_le first 0xDF) (two_at bytes first)
-    (cond (nat_le 0xE0 first && nat_le first 0xEF) (three_at bytes first)
-    (cond (nat_le 0xF0 first && nat_le first 0xF4) (four_at bytes first) None)))
+    (cond (nat_le 0xC2 first && nat_le first 0xDF) (long_at bytes first 0xC0 2)
+    (cond (nat_le 0xE0 first && nat_le first 0xEF) (long_at bytes first 0xE0 3)
+    (cond (nat_le 0xF0 first && nat_le first 0xF4) (long_at bytes first 0xF0 4) None)))

@@ -2,6 +2,7 @@
 use Rattle.std.specs.Prelude.{◌≡◌, ℕ, ◌+◌, ◌<◌, ◌≤◌, false, cond, ◌⊎◌, List, length, take, Some, None, Ok, Err, Option, Result, slice_index}
 use Rattle.std.specs.Option.{option_map}
 use Rattle.lists.specs.Laying.{laid}
+use Rattle.text_code.specs.declared.characters.CharacterFault.{CharacterFault}
 use Rattle.text_code.specs.declared.characters.Permitted.{Permitted}
 use Rattle.text_code.specs.declared.spelling.Spelling.{Spelling}
 use Rattle.text_code.specs.Characters.{permits}
@@ -22,13 +23,13 @@ pub record Unwritable (f : ℕ → Option (List ℕ)) (p : Permitted) (cs : List
   pub fault : (f (slice_index cs index) ≡ None) ⊎ (permits p (slice_index cs index) ≡ false)
 
 -- the number of bytes of a text, or the index of the first character that has no spelling or is not permitted
-abbrev pub Measured : (ℕ → Option (List ℕ)) → Permitted → List ℕ → Result ℕ ℕ → Type 0
+abbrev pub Measured : (ℕ → Option (List ℕ)) → Permitted → List ℕ → Result ℕ CharacterFault → Type 0
 Measured f p cs (Ok n) = (bytes : List ℕ) × Text f p cs bytes × (length bytes ≡ n)
-Measured f p cs (Err index) = Unwritable f p cs index
+Measured f p cs (Err fault) = Unwritable f p cs fault.place
 
 -- no other answer is true
-abbrev pub OnlyMeasure : (ℕ → Option (List ℕ)) → Permitted → List ℕ → Result ℕ ℕ → Type 0
-OnlyMeasure f p cs r = (q : Result ℕ ℕ) → Measured f p cs q → q ≡ r
+abbrev pub OnlyMeasure : (ℕ → Option (List ℕ)) → Permitted → List ℕ → Result ℕ CharacterFault → Type 0
+OnlyMeasure f p cs r = (q : Result ℕ CharacterFault) → Measured f p cs q → q ≡ r
 
 -- a buffer with the spelling of the characters laid over it, and where that ends
 pub record LaidTo (f : ℕ → Option (List ℕ)) (cs was : List ℕ) (place : ℕ) (after : List ℕ) (end : ℕ) : Type 0 where

@@ -1,8 +1,17 @@
 ghost use Rattle.std.specs.Prelude.{◌≡◌};
 ghost use Rattle.text_code.specs.Characters.{is_allowed, permits};
 
+/// Where the first character is that is malformed, has no spelling or is not permitted: the index of a byte in a text,
+/// of a number in a list.
+#[derive(Clone, Copy, PartialEq, Eq, Debug)]
+pub struct CharacterFault {
+    pub place: usize,
+}
+
 /// Which characters a text may hold.
-#[derive(Clone, Copy)]
+// The code and what is permitted stay two parameters: one code serves both kinds of text.
+// An enum and no closure: calling a closure takes a `requires`, and no public function has one.
+#[derive(Clone, Copy, PartialEq, Eq, Debug)]
 pub enum Permitted {
     /// Every character that the code spells.
     Any,

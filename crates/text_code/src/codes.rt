@@ -7,7 +7,7 @@ ghost use Rattle.text_code.specs.Writing.{spelling_bytes};
 use super::spelling::Spelling;
 
 /// A character and the number of bytes that spell it.
-#[derive(Clone, Copy)]
+#[derive(Clone, Copy, PartialEq, Eq, Debug)]
 pub struct Decoded {
     pub character: u32,
     pub length: usize,

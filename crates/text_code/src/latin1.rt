@@ -5,7 +5,7 @@ use super::codes::{Decoded, ReadingCode, WritingCode};
 use super::spelling::Spelling;
 
 /// ISO 8859-1: characters 0 to 255, one byte each.
-#[derive(Clone, Copy)]
+#[derive(Clone, Copy, PartialEq, Eq, Debug)]
 pub struct Latin1;
 
 impl ReadingCode for Latin1 {

@@ -9,7 +9,7 @@ mod spelling;
 mod utf8;
 mod writing;
 
-pub use characters::{Permitted, is_allowed};
+pub use characters::{CharacterFault, Permitted, is_allowed};
 pub use codes::{Decoded, ReadingCode, WritingCode};
 pub use latin1::Latin1;
 pub use reading::count_characters;

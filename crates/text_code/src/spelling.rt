@@ -2,6 +2,7 @@ ghost use Rattle.std.specs.Prelude.{◌≡◌, ◌≤◌, ◌&&◌, leb, length 
 ghost use Rattle.std.specs.Option.{option_map};
 
 /// The 1 to 4 bytes of one character.
+// A buffer with a length: there is no heap, and a spelling outlives the bytes that it is made of.
 #[derive(Clone, Copy)]
 pub struct Spelling {
     bytes: [u8; 4],
@@ -20,6 +21,7 @@ fn padded(bytes: &[u8]) -> [u8; 4]
 }
 
 impl Spelling {
+    // an Option, no TryFrom: no error would tell more than that there are none or too many
     /// The spelling of these bytes, if there are 1 to 4.
     pub fn new(bytes: &[u8]) -> Option<Spelling>
         ensures holds { option_map (λ s. take s.length s.bytes) result ≡ (if leb 1 (len bytes.now) && nat_le (len bytes.now) 4 then Some bytes.now else None) }

@@ -1,13 +1,13 @@
-ghost use Rattle.std.specs.Prelude.{◌≡◌, ◌<◌, ◌≤◌, IfSome};
+ghost use Rattle.std.specs.Prelude.{◌≡◌, ◌+◌, ◌<◌, ◌≤◌, IfSome};
 ghost use Rattle.text_code.specs.Codes.{continuation, four_bytes, three_bytes, two_bytes, utf8};
-ghost use Rattle.text_code.specs.Utf8Forms.{bits_at, two_at, three_at, four_at, form_at, least_second, greatest_second};
+ghost use Rattle.text_code.specs.Utf8Forms.{bits_at, long_at, form_at, least_second, greatest_second};
 ghost use borrow.Author.Rules.{rules};
 
 use super::codes::{Decoded, ReadingCode, WritingCode};
 use super::spelling::Spelling;
 
 /// UTF-8 as in RFC 3629: the shortest form, no surrogates, nothing above 10FFFF.
-#[derive(Clone, Copy)]
+#[derive(Clone, Copy, PartialEq, Eq, Debug)]
 pub struct Utf8;
 
 /// The least second byte behind a first: a lower one would begin a longer form than needed.
@@ -33,57 +33,37 @@ fn greatest_second(first: u8) -> u8
 }
 
 /// The last six bits of the byte at a place, if it is there and lies between two.
+#[tactic(auto, unfolding(crate::specs::Utf8Forms::bits_at))]
 fn bits_at(bytes: &[u8], place: usize, low: u8, high: u8) -> Option<u32>
     ensures value { result ≡ bits_at bytes.now place low high }
     ensures bound { IfSome result (λ bits. bits < 64) }
 {
-    if place < bytes.len() && low <= bytes[place] && bytes[place] <= high {
-        Some((bytes[place] % 64) as u32)
+    let byte = *bytes.get(place)?;
+    if low <= byte && byte <= high {
+        Some((byte % 64) as u32)
     } else {
         None
     }
 }
 
-fn read_two(bytes: &[u8], first: u8) -> Option<Decoded>
-    requires { 0xC0 ≤ first }
-    ensures { result ≡ two_at bytes.now first }
-{
-    let second = bits_at(bytes, 1, 0x80, 0xBF)?;
-    let character = (first - 0xC0) as u32 * 64 + second;
-    Some(Decoded {
-        character,
-        length: 2,
-    })
-}
-
-fn read_three(bytes: &[u8], first: u8) -> Option<Decoded>
-    requires { 0xE0 ≤ first }
-    ensures { result ≡ three_at bytes.now first }
+/// The character of a form of N bytes: the bits of the first byte above its lead, then six of each that follows.
+fn read_long<const N: usize>(bytes: &[u8], first: u8, lead: u8) -> Option<Decoded>
+    requires { (2 ≤ N) × (N ≤ 4) × (lead ≤ first) × (first < lead + 32) }
+    ensures { result ≡ long_at bytes.now first lead N }
 {
     let second = bits_at(bytes, 1, least_second(first), greatest_second(first))?;
-    let third = bits_at(bytes, 2, 0x80, 0xBF)?;
-    let character = ((first - 0xE0) as u32 * 64 + second) * 64 + third;
+    let mut character = (first - lead) as u32 * 64 + second;
+    for place in 2..N {
+        character = character * 64 + bits_at(bytes, place, 0x80, 0xBF)?;
+    }
     Some(Decoded {
         character,
-        length: 3,
-    })
-}
-
-fn read_four(bytes: &[u8], first: u8) -> Option<Decoded>
-    requires { 0xF0 ≤ first }
-    ensures { result ≡ four_at bytes.now first }
-{
-    let second = bits_at(bytes, 1, least_second(first), greatest_second(first))?;
-    let third = bits_at(bytes, 2, 0x80, 0xBF)?;
-    let fourth = bits_at(bytes, 3, 0x80, 0xBF)?;
-    let character = (((first - 0xF0) as u32 * 64 + second) * 64 + third) * 64 + fourth;
-    Some(Decoded {
-        character,
-        length: 4,
+        length: N,
     })
 }
 
 /// The character of the form that a first byte begins.
+#[tactic(auto, unfolding(crate::specs::Utf8Forms::form_at))]
 fn read_form(bytes: &[u8], first: u8) -> Option<Decoded>
     ensures { result ≡ form_at bytes.now first }
 {
@@ -93,9 +73,9 @@ fn read_form(bytes: &[u8], first: u8) -> Option<Decoded>
             length: 1,
         }),
         0x80..=0xC1 => None,
-        0xC2..=0xDF => read_two(bytes, first),
-        0xE0..=0xEF => read_three(bytes, first),
-        0xF0..=0xF4 => read_four(bytes, first),
+        0xC2..=0xDF => read_long::<2>(bytes, first, 0xC0),
+        0xE0..=0xEF => read_long::<3>(bytes, first, 0xE0),
+        0xF0..=0xF4 => read_long::<4>(bytes, first, 0xF0),
         0xF5..=0xFF => None,
     }
 }
@@ -127,6 +107,8 @@ fn continuation_byte(bits: u32) -> u8
 {
     0x80 + (bits % 64) as u8
 }
+
+// Each form stands as RFC 3629 shows it: one loop for all three would be longer, and hide which bits go where.
 
 /// The form of numbers up to 7FF.
 fn two_bytes(character: u32) -> [u8; 2]
@@ -162,6 +144,7 @@ fn four_bytes(character: u32) -> [u8; 4]
 }
 
 impl WritingCode for Utf8 {
+    #[tactic(auto, unfolding(crate::specs::Codes::utf8))]
     fn spell(&self, character: u32) -> Option<Spelling> {
         match character {
             0..=0x7F => Spelling::new(&[character as u8]),

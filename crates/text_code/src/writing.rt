@@ -1,8 +1,9 @@
-ghost use Rattle.std.specs.Prelude.{◌≡◌, ◌+◌, ◌≤◌, ◌++◌, length as len, take, drop};
+ghost use Rattle.std.specs.Prelude.{◌≡◌};
 ghost use Rattle.text_code.specs.Writing.{Laid, Measured, OnlyMeasure, permitted_length};
 
-use super::characters::Permitted;
+use super::characters::{CharacterFault, Permitted};
 use super::codes::WritingCode;
+use lists::lay;
 
 /// The number of bytes that spell a character, or none where it has no spelling or is not permitted.
 fn permitted_length<C: WritingCode>(code: &C, permitted: Permitted, character: u32) -> Option<usize>
@@ -21,29 +22,16 @@ pub fn spelled_length<C: WritingCode>(
     code: &C,
     permitted: Permitted,
     characters: &[u32],
-) -> Result<usize, usize>
+) -> Result<usize, CharacterFault>
     ensures answer { Measured (C.ReadingCode.spells code.now) permitted characters.now result }
     ensures only { OnlyMeasure (C.ReadingCode.spells code.now) permitted characters.now result }
 {
     let mut length = 0;
     for (index, character) in characters.iter().enumerate() {
-        let Some(more) = permitted_length(code, permitted, *character) else {
-            return Err(index);
-        };
-        length += more;
+        let fault = CharacterFault { place: index };
+        length += permitted_length(code, permitted, *character).ok_or(fault)?;
     }
     Ok(length)
-}
-
-/// Lays bytes over the buffer from a place on and tells where they end.
-fn lay(bytes: &[u8], buffer: &mut [u8], at: usize) -> usize
-    requires { at + len bytes.now ≤ len buffer.old }
-    ensures end { result ≡ at + len bytes.now }
-    ensures holds { buffer.new ≡ take at buffer.old ++ (bytes.now ++ drop (len bytes.now) (drop at buffer.old)) }
-{
-    let end = at + bytes.len();
-    buffer[at..end].copy_from_slice(bytes);
-    end
 }
 
 /// Lays the spelled characters over the buffer from a place on and tells where they end.
@@ -56,18 +44,14 @@ pub fn lay_characters<C: WritingCode>(
 ) -> Option<usize>
     ensures laid { Laid (C.ReadingCode.spells code.now) characters.now buffer.old place buffer.new result }
 {
-    let Ok(length) = spelled_length(code, Permitted::Any, characters) else {
-        return None;
-    };
+    let length = spelled_length(code, Permitted::Any, characters).ok()?;
     if place > buffer.len() || length > buffer.len() - place {
         return None;
     }
     let mut at = place;
     for character in characters {
-        let Some(spelling) = code.spell(*character) else {
-            unreachable()
-        };
-        at = lay(spelling.as_bytes(), buffer, at);
+        let spelling = code.spell(*character).unwrap();
+        at = lay(buffer, at, spelling.as_bytes());
     }
     Some(at)
 }

@@ -9,8 +9,8 @@ mod tests {
     use std::process::Abort;
     use std::test::Fail;
     use text_code::{
-        Latin1, Permitted, ReadingCode, Utf8, WritingCode, count_characters, is_allowed,
-        lay_characters, spelled_length,
+        CharacterFault, Decoded, Latin1, Permitted, ReadingCode, Utf8, WritingCode,
+        count_characters, is_allowed, lay_characters, spelled_length,
     };
 
     const AZUBI: [u32; 22] = [
@@ -18,11 +18,12 @@ mod tests {
         110, 103,
     ];
 
-    fn read<C: ReadingCode>(code: &C, bytes: &[u8]) -> Option<(u32, usize)> {
-        match code.read(bytes) {
-            Some(decoded) => Some((decoded.character, decoded.length)),
-            None => None,
-        }
+    fn decoded(character: u32, length: usize) -> Option<Decoded> {
+        Some(Decoded { character, length })
+    }
+
+    fn fault(place: usize) -> Result<usize, CharacterFault> {
+        Err(CharacterFault { place })
     }
 
     // The bytes are read and written as these characters.
@@ -41,14 +42,14 @@ mod tests {
             Some(1 + bytes.len())
         );
         assert!(rt; 1 + bytes.len() <= buffer.len());
-        assert!(rt; &buffer[1..1 + bytes.len()] == bytes);
+        assert_eq!(rt; &buffer[1..1 + bytes.len()], bytes);
         let mut at = 0;
         for character in characters {
             assert!(rt; at <= bytes.len());
-            let (read, length) = read(&Utf8, &bytes[at..]).ok_or("malformed")?;
-            assert_eq!(rt; read, *character);
-            assert!(rt; length <= 4);
-            at += length;
+            let read = Utf8.read(&bytes[at..]).ok_or("malformed")?;
+            assert_eq!(rt; read.character, *character);
+            assert!(rt; read.length <= 4);
+            at += read.length;
         }
         Ok(())
     }
@@ -97,14 +98,12 @@ mod tests {
         ];
         for (character, bytes, length) in cases {
             assert!(rt; length <= 4);
-            assert_eq!(rt; read(&Utf8, &bytes[0..length]), Some((character, length)));
-            assert_eq!(rt; read(&Utf8, &bytes), Some((character, length)));
-            let Some(spelling) = Utf8.spell(character) else {
-                return Err(Fail::new("unspelled"));
-            };
-            assert!(rt; spelling.as_bytes() == &bytes[0..length]);
+            assert_eq!(rt; Utf8.read(&bytes[0..length]), decoded(character, length));
+            assert_eq!(rt; Utf8.read(&bytes), decoded(character, length));
+            let spelling = Utf8.spell(character).ok_or("unspelled")?;
+            assert_eq!(rt; spelling.as_bytes(), &bytes[0..length]);
             for cut in 0..length {
-                assert_eq!(rt; read(&Utf8, &bytes[0..cut]), None);
+                assert_eq!(rt; Utf8.read(&bytes[0..cut]), None);
             }
         }
         Ok(())
@@ -116,7 +115,7 @@ mod tests {
             assert!(rt; Utf8.spell(character).is_none());
             assert_eq!(rt;
                 spelled_length(&Utf8, Permitted::Any, &[65, character]),
-                Err(1)
+                fault(1)
             );
         }
     }
@@ -148,24 +147,22 @@ mod tests {
             [0xF0, 0x90, 0x80, 0x41],
         ];
         for bytes in cases {
-            assert_eq!(rt; read(&Utf8, &bytes), None);
-            assert_eq!(rt; count_characters(&Utf8, Permitted::Any, &bytes), Err(0));
+            assert_eq!(rt; Utf8.read(&bytes), None);
+            assert_eq!(rt; count_characters(&Utf8, Permitted::Any, &bytes), fault(0));
             let behind = [0xC3, 0xBC, bytes[0], bytes[1], bytes[2], bytes[3]];
-            assert_eq!(rt; count_characters(&Utf8, Permitted::Any, &behind), Err(2));
+            assert_eq!(rt; count_characters(&Utf8, Permitted::Any, &behind), fault(2));
         }
-        assert_eq!(rt; read(&Utf8, &[]), None);
+        assert_eq!(rt; Utf8.read(&[]), None);
     }
 
     #[test]
     fn latin1_bytes(rt: HostRuntime) -> Result<(), Fail> {
         for byte in 0..=255u8 {
-            assert_eq!(rt; read(&Latin1, &[byte, 7]), Some((byte as u32, 1)));
-            let Some(spelling) = Latin1.spell(byte as u32) else {
-                return Err(Fail::new("unspelled"));
-            };
-            assert!(rt; spelling.as_bytes() == [byte].as_slice());
+            assert_eq!(rt; Latin1.read(&[byte, 7]), decoded(byte as u32, 1));
+            let spelling = Latin1.spell(byte as u32).ok_or("unspelled")?;
+            assert_eq!(rt; spelling.as_bytes(), [byte].as_slice());
         }
-        assert_eq!(rt; read(&Latin1, &[]), None);
+        assert_eq!(rt; Latin1.read(&[]), None);
         assert!(rt; Latin1.spell(256).is_none() && Latin1.spell(0x10FFFF).is_none());
         Ok(())
     }
@@ -199,7 +196,7 @@ mod tests {
             assert!(rt; !is_allowed(character));
             assert_eq!(rt;
                 spelled_length(&Utf8, Permitted::TicketText, &[32, 10, character]),
-                Err(2)
+                fault(2)
             );
         }
         for character in [10, 32, 126, 160, 0xAD, 0x10FFFF] {
@@ -207,7 +204,7 @@ mod tests {
         }
         assert_eq!(rt;
             count_characters(&Utf8, Permitted::TicketText, &[0xC3, 0xBC, 10, 9]),
-            Err(3)
+            fault(3)
         );
         assert_eq!(rt;
             count_characters(&Utf8, Permitted::Any, &[0xC3, 0xBC, 10, 9]),
@@ -230,11 +227,11 @@ mod tests {
                 lay_characters(&Utf8, &characters, &mut buffer, place),
                 None
             );
-            assert!(rt; &buffer == &[1, 2, 3, 4]);
+            assert_eq!(rt; buffer, [1, 2, 3, 4]);
         }
         let mut buffer = [1, 2, 3, 4];
         assert_eq!(rt; lay_characters(&Utf8, &[252], &mut buffer, 1), Some(3));
-        assert!(rt; &buffer == &[1, 0xC3, 0xBC, 4]);
+        assert_eq!(rt; buffer, [1, 0xC3, 0xBC, 4]);
         assert_eq!(rt; lay_characters(&Utf8, &[], &mut buffer, 4), Some(4));
     }
 
@@ -245,18 +242,18 @@ mod tests {
             let code = WithSign {
                 sign: Lent { character: &sign },
             };
-            assert_eq!(rt; read(&code, &[128, 65]), Some((sign, 1)));
+            assert_eq!(rt; code.read(&[128, 65]), decoded(sign, 1));
             assert_eq!(rt;
                 count_characters(&code, Permitted::Any, &[65, 128, 129]),
-                Err(2)
+                fault(2)
             );
             assert_eq!(rt;
                 spelled_length(&code, Permitted::Any, &[65, sign, sign + 1]),
-                Err(2)
+                fault(2)
             );
             let mut buffer = [0; 3];
             assert_eq!(rt; lay_characters(&code, &[65, sign], &mut buffer, 1), Some(3));
-            assert!(rt; &buffer == &[0, 65, 128]);
+            assert_eq!(rt; buffer, [0, 65, 128]);
         }
     }
 }

@@ -18,7 +18,8 @@ use Rattle.octets.proofs.PartLaws.{Stands, stands, stands_part, stands_to, stand
 use Rattle.field.specs.Fields.{Field}
 use Rattle.record.specs.Start.{in_record}
 use Rattle.text_code.specs.Spellings.{OneToFour, OfCharacters, PrefixFree}
-use Rattle.ticket.specs.Lawful.{LawfulField, Room, text_total}
+use Rattle.ticket.specs.Lawful.{LawfulField, text_total}
+use Rattle.ticket.specs.declared.room.Room.{Room}
 use Rattle.ticket.specs.Reading.{in_body, number_at, ReadField, field_at, fields_at, size_all, fields_of, standard_at, count_at, layout_to}
 use Rattle.ticket.specs.Tickets.{text_bytes, field_bytes, fields_bytes, layout_body}
 use Rattle.ticket.proofs.FieldLaws.{in_body_read, number_at_told, number_at_read, length_field, field_told, field_read}

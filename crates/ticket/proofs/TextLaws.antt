@@ -7,6 +7,7 @@ use Rattle.refusal.specs.Chain.{then, lift, demand}
 use Rattle.refusal.proofs.Chains.{ok_same, then_ok, then_go, lift_ok, demand_ok, demand_go}
 use Rattle.field.specs.Areas.{Area}
 use Rattle.text_code.specs.Characters.{is_allowed}
+use Rattle.text_code.specs.declared.characters.CharacterFault.{CharacterFault}
 use Rattle.text_code.specs.declared.characters.Permitted.TheVariants.{TicketText}
 use Rattle.text_code.specs.Reading.{Faulty, Text}
 use Rattle.text_code.specs.Spellings.{Begins, NoneBegins, OfCharacters, OneToFour, PrefixFree}
@@ -105,8 +106,9 @@ text_whole f bytes short bounded = text_from_lem f (length bytes) 0 bytes short 
 -- the bytes spell one list of characters, and have a fault or spell a text, not both
 only_read : (f : ℕ → Option (List ℕ)) (bytes cs : List ℕ) (r : Result (List ℕ) ℕ) → OneToFour f → PrefixFree f → Read f 0 bytes r → Text f TicketText cs bytes → r ≡ Ok cs
 only_read f bytes cs (Ok ds) short apart t u = ap Ok (unique_decoding f short apart ds cs bytes t.spelled u.spelled)
-only_read f bytes cs (Err fault) short apart (k, e, w) u =
-    let h : ◌≡◌ {A = Result ℕ ℕ} (Ok (length cs)) (Err k) = only_answer f TicketText bytes (Err k) short apart w (Ok (length cs)) (cs, u, refl) in
+only_read f bytes cs (Err place) short apart (k, e, w) u =
+    let fault : CharacterFault = record { place = k } in
+    let h : ◌≡◌ {A = Result ℕ CharacterFault} (Ok (length cs)) (Err fault) = only_answer f TicketText bytes (Err fault) short apart w (Ok (length cs)) (cs, u, refl) in
     let z : ◌≡◌ {A = ℕ} 0 1 = cc in absurd (omega arith)
 
 -- the characters that are read are those that the bytes spell, and they fit

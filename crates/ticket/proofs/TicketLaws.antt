@@ -15,7 +15,8 @@ use Rattle.record.specs.Start.{body_length}
 use Rattle.record.specs.declared.start.RecordKind.TheVariants.{Layout}
 use Rattle.record.proofs.StartLaws.{StartsAt, start_told, start_read}
 use Rattle.text_code.specs.Spellings.{OneToFour, OfCharacters, PrefixFree}
-use Rattle.ticket.specs.Lawful.{Lawful, Room, Fits, needs, text_total, body_total}
+use Rattle.ticket.specs.Lawful.{Lawful, Fits, needs, text_total, body_total}
+use Rattle.ticket.specs.declared.room.Room.{Room}
 use Rattle.ticket.specs.Laws.{TicketOf, AcceptsExactly, BytesDetermine}
 use Rattle.ticket.specs.Reading.{fields_of, layout_to, carried_from, ticket_in}
 use Rattle.ticket.specs.Tickets.{Ticket, layout_body, record_bytes, carried_bytes, encode}

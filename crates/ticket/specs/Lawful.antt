@@ -10,6 +10,7 @@ use Rattle.record.specs.declared.start.RecordKind.TheVariants.{Carried}
 use Rattle.text_code.specs.Reading.{Text}
 use Rattle.text_code.specs.declared.characters.Permitted.TheVariants.{TicketText}
 use Rattle.wrap.specs.Flow.{fits}
+use Rattle.ticket.specs.declared.room.Room.{Room}
 use Rattle.ticket.specs.Tickets.{CarriedRecord, Ticket, text_bytes, layout_body}
 
 -- the text has only allowed characters, each with a spelling, and fits its rectangle
@@ -34,13 +35,6 @@ pub record Lawful (f : ℕ → Option (List ℕ)) (t : Ticket) : Type 0 where
   pub layout : length (layout_body f t.fields) ≤ 9999
   pub carried : AllByRecursion LawfulCarried t.carried
   pub few : length t.carried ≤ 8
-
--- numbers of fields, of their texts' bytes, of carried records and of their bodies' bytes
-pub record Room : Type 0 where
-  pub fields : ℕ
-  pub texts : ℕ
-  pub carried : ℕ
-  pub bodies : ℕ
 
 abbrev pub text_total : (ℕ → Option (List ℕ)) → List Field → ℕ
 text_total f [] = 0

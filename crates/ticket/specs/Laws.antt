@@ -1,6 +1,7 @@
 -- What is promised of reading and of the bytes of tickets, in every text code.
 use Rattle.std.specs.Prelude.{◌≡◌, ℕ, List, Ok, Option}
-use Rattle.ticket.specs.Lawful.{Lawful, Room, Fits, needs}
+use Rattle.ticket.specs.Lawful.{Lawful, Fits, needs}
+use Rattle.ticket.specs.declared.room.Room.{Room}
 use Rattle.ticket.specs.Reading.{ticket_in}
 use Rattle.ticket.specs.Tickets.{Ticket, encode}
 

@@ -1,3 +1,4 @@
+pub mod Rooms
 pub mod Tickets
 pub mod Lawful
 pub mod Decoding

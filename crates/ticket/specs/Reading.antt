@@ -22,7 +22,7 @@ use Rattle.record.specs.declared.start.RecordKind.TheVariants.{Layout, Carried}
 use Rattle.wrap.specs.declared.checks.TextFault.{TextFault}
 use Rattle.wrap.specs.declared.checks.TextFault.TheVariants.{Character, TooLarge}
 use Rattle.ticket.specs.Decoding.{text_in}
-use Rattle.ticket.specs.Lawful.{Room}
+use Rattle.ticket.specs.declared.room.Room.{Room}
 use Rattle.ticket.specs.Tickets.{CarriedRecord, Ticket}
 
 -- a place in field k of the layout

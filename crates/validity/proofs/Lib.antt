@@ -1,4 +1,3 @@
-pub mod Layering
 pub mod Packing
 pub mod Scanning
 pub mod Digiting

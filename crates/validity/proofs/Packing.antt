@@ -1,7 +1,8 @@
 -- Words made from a test: their bits, how one more bit is set, and how many are set.
-use Rattle.std.proofs.Common.{◌≡◌, ℕ, zero, suc, ◌+◌, ◌*◌, ◌/◌, ◌%◌, ◌^◌, ◌<◌, ◌≤◌, max, Bool, true, false, ◌||◌, eqb, ◌⊎◌, List, ◌∷◌, length, get_or, set, sym, refl, ap, ◌∙◌, ap₂, inl, inr, pow-suc, arith}
+use Rattle.std.proofs.Common.{◌≡◌, ℕ, zero, suc, ◌+◌, ◌*◌, ◌/◌, ◌%◌, ◌^◌, ◌<◌, ◌≤◌, max, Bool, true, false, ◌||◌, eqb, ◌⊎◌, List, [], ◌∷◌, length, get_or, set, sym, refl, ap, ◌∙◌, ap₂, inl, inr, pow-suc, arith}
 use lib.Bits.{bit_or, or_step, or_zero_r}
-use lib.Count.{ones, ones_step}
+use lib.Count.{ones, ones-le, ones_step}
+use Rattle.std.proofs.lemmas.List.Sums.{sum_by-cons}
 use Rattle.std.proofs.lemmas.Nat.{one_shl, shr-shr}
 use Rattle.std.proofs.lemmas.Bool.{ne_eqb, eq-eqb, cases_eq}
 use Rattle.std.proofs.lemmas.Bool.Decides.{nat_tests}
@@ -120,7 +121,8 @@ unfolding words_of count_of
 ones_words zero f = refl
 ones_words (suc n) f =
     let e : 64 * suc n ≡ 64 + 64 * n = omega arith in
-    ap₂ (λ x y. x + y) (ones_word 64 f) (ones_words n (λ z. f (64 + z))) ∙ sym (count_add 64 (64 * n) f) ∙ ap (λ k. count_of k f) (sym e)
+    sum_by-cons ones (word_of 64 f) (words_of n (λ z. f (64 + z)))
+    ∙ ap₂ (λ x y. x + y) (ones_word 64 f) (ones_words n (λ z. f (64 + z))) ∙ sym (count_add 64 (64 * n) f) ∙ ap (λ k. count_of k f) (sym e)
 
 pub count_none : (n : ℕ) (f : ℕ → Bool) → ((z : ℕ) → f z ≡ false) → count_of n f ≡ 0
 unfolding count_of
@@ -154,3 +156,8 @@ pub length-words : (n : ℕ) (f : ℕ → Bool) → length (words_of n f) ≡ n
 unfolding words_of
 length-words zero f = refl
 length-words (suc n) f = ap suc (length-words n (λ z. f (64 + z)))
+
+-- a word has at most 64 bits
+pub ones_bound : (ws : List ℕ) → ((i : ℕ) → get_or ws i 0 < 18446744073709551616) → ones_of ws ≤ 64 * length ws
+ones_bound [] h = omega arith
+ones_bound (w ∷ ws) h = omega (arith, ones-le 64 w (h 0), ones_bound ws (λ i. h (suc i)), sum_by-cons ones w ws)

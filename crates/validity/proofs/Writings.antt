@@ -3,7 +3,7 @@ use Rattle.std.proofs.Common.{◌≡◌, ℕ, zero, suc, ◌+◌, ◌*◌, ◌/�
 use Rattle.std.proofs.ByRecursion.{All-append, All-push}
 use Rattle.std.proofs.lemmas.List.{take-append-drop, take_all, drop-drop, length-drop}
 use Rattle.std.proofs.lemmas.Slice.Eq.{bytes_eq-Decides}
-use Rattle.std.proofs.lemmas.Bool.{and_from, and_parts, false≢true, cond-false, cond_both, cond-true, eq-eqb, eqb-true, le-leb, leb-true}
+use Rattle.std.proofs.lemmas.Bool.{and_from, and_parts, false≢true, cond_both, cond-true, eq-eqb, eqb-true, le-leb, leb-true}
 use Rattle.std.proofs.lemmas.Bool.Decides.{nat_tests}
 use Rattle.std.specs.List.{AllByRecursion}
 use Rattle.std.specs.Str.{bytes_eq}
@@ -16,7 +16,7 @@ use Rattle.text_code.specs.Spellings.{OneToFour, PrefixFree, OwnBytes, Spelled, 
 use Rattle.text_code.proofs.Unique.{unique_decoding}
 use Rattle.validity.specs.declared.answer.Period.{Period}
 use Rattle.octets.specs.Digits.{digits}
-use Rattle.validity.specs.Periods.{InEveryCode, InOrder, MomentOf, PeriodOf, ReadInEveryCode, Tells, between, date_at, date_text, moment_at, moment_seconds, moment_text, period_of, period_text, seconds_if_real, seconds_if_written, time_at, time_text}
+use Rattle.validity.specs.Periods.{InEveryCode, InOrder, MomentOf, PeriodOf, ReadInEveryCode, Tells, between, date_at, date_text, moment_at, moment_text, period_of, period_text, seconds_if_real, time_at, time_text, two_parts}
 use Rattle.validity.proofs.ZoneAnswers.{own_spelled}
 
 -- reading back
@@ -94,34 +94,6 @@ moment_written cs r d t p q w h f =
           (g.0, g.1, g.2 ∙ de, g.3 ∙ tu);
       only = moment_same cs r d t w f;
     }
-
-pub moment_unwritten : (cs : List ℕ) (d : Date) (t : Time) → d ≡ date_at cs → t ≡ time_at cs → (cs ≡ moment_text d t → ⊥) → MomentOf cs None
-moment_unwritten cs d t p q n =
-    record {
-      told = λ e u re ru x.
-          let de : d ≡ e = p ∙ ap date_at x ∙ date_back e u re in
-          let tu : t ≡ u = q ∙ ap time_at x ∙ time_back e u ru in
-          absurd (n (x ∙ ap₂ moment_text (sym de) (sym tu)));
-      only = tt;
-    }
-
--- its seconds are those of the text
-real_seconds : (r : Option Moment) (d : Date) (t : Time) → is_some r ≡ (real_date d && real_time t) → IfSome r (λ m. (m.date ≡ d) × (m.time ≡ t))
-    → moment_seconds r ≡ seconds_if_real d t
-real_seconds None d t a f = sym (cond-false (real_date d && real_time t) (Some (seconds_of d t)) None (sym a))
-real_seconds (Some m) d t a f =
-    ap₂ (λ e u. Some (seconds_of e u)) f.0 f.1 ∙ sym (cond-true (real_date d && real_time t) (Some (seconds_of d t)) None (sym a))
-
-pub seconds_written : (cs : List ℕ) (r : Option Moment) (d : Date) (t : Time) → d ≡ date_at cs → t ≡ time_at cs → cs ≡ moment_text d t
-    → is_some r ≡ (real_date d && real_time t) → IfSome r (λ m. (m.date ≡ d) × (m.time ≡ t)) → moment_seconds r ≡ moment_at cs
-seconds_written cs r d t p q w a f =
-    real_seconds r d t a f
-    ∙ sym (cond-true (bytes_eq cs (moment_text d t)) (seconds_if_real d t) None ((bytes_eq-Decides cs (moment_text d t)).1 w))
-    ∙ ap₂ (seconds_if_written cs) p q
-
-pub seconds_unwritten : (cs : List ℕ) (d : Date) (t : Time) → d ≡ date_at cs → t ≡ time_at cs → bytes_eq cs (moment_text d t) ≡ false → None ≡ moment_at cs
-seconds_unwritten cs d t p q h =
-    sym (cond-false (bytes_eq cs (moment_text d t)) (seconds_if_real d t) None h) ∙ ap₂ (seconds_if_written cs) p q
 
 -- a moment's text gives its seconds, and only such a text gives any
 
@@ -241,6 +213,14 @@ in_code f bytes cs r short apart own s a =
           a.told d t e u o y;
       only = only_in f bytes cs r short apart own s a.only;
     }
+
+-- a text cut into 19 bytes, the three in the middle and 19 more
+pub cut_in_two : (bytes rest last : List ℕ) → rest ≡ drop 19 bytes → length rest + 19 ≡ length bytes → bytes_eq (take 3 rest) dash ≡ true
+    → last ≡ drop 3 rest → length last + 3 ≡ length rest → length last ≡ 19 → (two_parts bytes ≡ true) × (last ≡ take 19 (drop 22 bytes))
+cut_in_two bytes rest last r m e q n k = (
+  and_from (eqb (length bytes) 41) (bytes_eq (take 3 (drop 19 bytes)) dash) (eq-eqb (length bytes) 41 (omega arith)) (ap (λ x. bytes_eq (take 3 x) dash) (sym r) ∙ e),
+  q ∙ ap (drop 3) r ∙ drop-drop 3 19 bytes ∙ sym (take_all 19 (drop 22 bytes) (omega (arith, length-drop 22 bytes))),
+)
 
 -- the answers
 

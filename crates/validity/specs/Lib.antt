@@ -2,4 +2,3 @@ pub mod Zoning
 pub mod Listing
 pub mod ZoneLaws
 pub mod Periods
-pub mod Layers

@@ -93,12 +93,15 @@ two_parts cs = length cs == 41 && bytes_eq (take 3 (drop 19 cs)) (32 ∷ 45 ∷ 
 abbrev pub period_of : List ℕ → Option Period
 period_of cs = cond (two_parts cs) (between (moment_at (take 19 cs)) (moment_at (take 19 (drop 22 cs)))) None
 
+-- P holds of each text that the bytes spell in some code
+abbrev pub InEachCode : (List ℕ → Type 0) → List ℕ → Type 0
+InEachCode P bytes =
+    (f : ℕ → Option (List ℕ)) → OneToFour f → PrefixFree f → OwnBytes f → (cs : List ℕ) → Spelled f cs bytes → P cs
+
 -- the bytes give the answer to their text in every code
 abbrev pub InEveryCode : List ℕ → Option Period → Type 0
-InEveryCode bytes r =
-    (f : ℕ → Option (List ℕ)) → OneToFour f → PrefixFree f → OwnBytes f → (cs : List ℕ) → Spelled f cs bytes → PeriodOf cs r
+InEveryCode bytes r = InEachCode (λ cs. PeriodOf cs r) bytes
 
 -- which is the period that the parts of the text tell
 abbrev pub ReadInEveryCode : List ℕ → Option Period → Type 0
-ReadInEveryCode bytes r =
-    (f : ℕ → Option (List ℕ)) → OneToFour f → PrefixFree f → OwnBytes f → (cs : List ℕ) → Spelled f cs bytes → r ≡ period_of cs
+ReadInEveryCode bytes r = InEachCode (λ cs. r ≡ period_of cs) bytes

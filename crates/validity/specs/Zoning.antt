@@ -1,5 +1,5 @@
 -- Zones are the numbers 0 to 999. An answer has a kind, sixteen words of 64 bits and a count.
-use Rattle.std.specs.Prelude.{ℕ, zero, suc, ◌+◌, ◌*◌, Bool, false, cond, ◌||◌, List, [], ◌∷◌, Some, None, Option, ◌==◌, count_ones, nat_lt}
+use Rattle.std.specs.Prelude.{ℕ, zero, suc, ◌+◌, ◌*◌, Bool, false, cond, ◌||◌, List, [], ◌∷◌, Some, None, Option, ◌==◌, count_ones, nat_lt, sum_by}
 use Rattle.validity.specs.declared.answer.Zones.{Zones}
 use Rattle.validity.specs.declared.answer.ZoneKind.{ZoneKind}
 use Rattle.validity.specs.declared.answer.ZoneKind.TheVariants.{Plain, All, Listed}
@@ -24,8 +24,7 @@ count_of (suc n) f = flag (f 0) + count_of n (λ z. f (suc z))
 
 -- how many bits of some words are set
 abbrev pub ones_of : List ℕ → ℕ
-ones_of [] = 0
-ones_of (w ∷ ws) = count_ones w + ones_of ws
+ones_of ws = sum_by count_ones ws
 
 -- the answer whose zones are those for which f holds
 abbrev pub zones_with : ZoneKind → (ℕ → Bool) → Zones

@@ -1,5 +1,5 @@
 /// What a text says about zones.
-#[derive(Clone, Copy)]
+#[derive(Clone, Copy, PartialEq, Eq, Debug)]
 pub enum ZoneKind {
     /// No zones: the text is read by eye.
     Plain,
@@ -10,7 +10,8 @@ pub enum ZoneKind {
 }
 
 /// The zones of a text: zone z is bit z mod 64 of word z div 64.
-#[derive(Clone, Copy)]
+// not words within each kind: every kind has words and a count, so a zone is looked up without asking the kind
+#[derive(Clone, Copy, PartialEq, Eq, Debug)]
 pub struct Zones {
     pub kind: ZoneKind,
     pub words: [u64; 16],
@@ -19,17 +20,8 @@ pub struct Zones {
 }
 
 /// A period, its beginning and end in seconds since 01.01.0001 00:00:00.
-#[derive(Clone, Copy)]
+#[derive(Clone, Copy, PartialEq, Eq, Debug)]
 pub struct Period {
     pub begin: u64,
     pub end: u64,
-}
-
-/// The cells of a field: its first line and column, and its size.
-#[derive(Clone, Copy)]
-pub struct Rectangle {
-    pub line: u32,
-    pub column: u32,
-    pub height: u32,
-    pub width: u32,
 }

@@ -28,9 +28,10 @@ pub(crate) fn listed_words<C: ReadingCode>(code: &C, bytes: &[u8]) -> Option<[u6
 {
     let mut words = [0; 16];
     let (mut digits, mut value, mut gap) = (0u8, 0, false);
-    let mut at = 0;
-    while at < bytes.len() {
-        let decoded = code.read(&bytes[at..])?;
+    let mut rest = bytes;
+    while !rest.is_empty() {
+        let decoded = code.read(rest)?;
+        // the state and the class in one match, so that each turn of the state is one arm
         match (digits, gap, class_of(decoded.character)) {
             (2, false, Class::Digit(digit)) => {
                 mark(&mut words, value * 10 + digit);
@@ -47,7 +48,7 @@ pub(crate) fn listed_words<C: ReadingCode>(code: &C, bytes: &[u8]) -> Option<[u6
             }
             _ => return None,
         }
-        at += decoded.length;
+        rest = &rest[decoded.length..];
     }
     if gap { Some(words) } else { None }
 }

@@ -60,9 +60,5 @@ pub(crate) fn mark(words: &mut [u64; 16], zone: u32)
 pub(crate) fn count_zones(words: &[u64; 16]) -> u32
     ensures { result ≡ ones_of words.now }
 {
-    let mut count = 0;
-    for word in words {
-        count += word.count_ones();
-    }
-    count
+    words.iter().map(|word| word.count_ones()).sum()
 }

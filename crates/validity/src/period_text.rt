@@ -1,21 +1,21 @@
-ghost use Rattle.std.specs.Prelude.{◌≡◌, ℕ, ◌+◌, ◌≤◌, List, length};
+ghost use Rattle.std.specs.Prelude.{◌≡◌, ℕ, ◌≤◌, List, take, drop, is_some, IfSome};
 ghost use Rattle.validity.specs.Periods.{InEveryCode, MomentOf, PeriodOf, ReadInEveryCode, between, date_at, moment_at, moment_seconds, moment_text, period_of, time_at, two_at, two_parts};
 
 use super::answer::Period;
 use calendar::{Date, Moment, Time};
-use octets::same_bytes;
+use octets::write_number;
 
 /// What two bytes write if they are digits.
-fn two_at(text: &[u8], at: usize) -> u8
-    requires { at + 2 ≤ length text.now }
+// not read_number: no digit is tested here, since the text as a whole is compared with what it should be
+fn two_at(text: &[u8; 19], at: usize) -> u8
+    requires { at ≤ 17 }
     ensures { result ≡ two_at text.now at }
 {
     text[at] % 16 * 10 + text[at + 1] % 16
 }
 
 /// The date of a moment's text, as if its digits stood in their places.
-fn date_at(text: &[u8]) -> Date
-    requires { length text.now ≡ 19 }
+fn date_at(text: &[u8; 19]) -> Date
     ensures { result ≡ date_at text.now }
 {
     Date {
@@ -26,8 +26,7 @@ fn date_at(text: &[u8]) -> Date
 }
 
 /// The time of a moment's text, as if its digits stood in their places.
-fn time_at(text: &[u8]) -> Time
-    requires { length text.now ≡ 19 }
+fn time_at(text: &[u8; 19]) -> Time
     ensures { result ≡ time_at text.now }
 {
     Time {
@@ -41,51 +40,36 @@ fn time_at(text: &[u8]) -> Time
 fn moment_bytes(date: Date, time: Time) -> [u8; 19]
     ensures { result ≡ moment_text date time }
 {
-    let year = date.year;
-    [
-        b'0' + date.day / 10 % 10,
-        b'0' + date.day % 10,
-        b'.',
-        b'0' + date.month / 10 % 10,
-        b'0' + date.month % 10,
-        b'.',
-        b'0' + (year / 10 / 10 / 10 % 10) as u8,
-        b'0' + (year / 10 / 10 % 10) as u8,
-        b'0' + (year / 10 % 10) as u8,
-        b'0' + (year % 10) as u8,
-        b' ',
-        b'0' + time.hour / 10 % 10,
-        b'0' + time.hour % 10,
-        b':',
-        b'0' + time.minute / 10 % 10,
-        b'0' + time.minute % 10,
-        b':',
-        b'0' + time.second / 10 % 10,
-        b'0' + time.second % 10,
-    ]
+    let mut text = *b"dd.MM.yyyy HH:mm:ss";
+    write_number(&mut text[0..2], date.day as u32);
+    write_number(&mut text[3..5], date.month as u32);
+    write_number(&mut text[6..10], date.year as u32);
+    write_number(&mut text[11..13], time.hour as u32);
+    write_number(&mut text[14..16], time.minute as u32);
+    write_number(&mut text[17..19], time.second as u32);
+    text
 }
 
-/// The moment that a text of 19 bytes writes. It is read as if its digits stood in their places, and then compared with the moment's text.
-fn moment_of(text: &[u8]) -> Option<Moment>
-    requires { length text.now ≡ 19 }
+/// The moment that a text writes. It is read as if its digits stood in their places, and then compared with the
+/// moment's text.
+fn moment_of(text: &[u8; 19]) -> Option<Moment>
     ensures moment { MomentOf text.now result }
     ensures seconds { moment_seconds result ≡ moment_at text.now }
 {
     let date = date_at(text);
     let time = time_at(text);
-    if same_bytes(text, &moment_bytes(date, time)) {
+    if *text == moment_bytes(date, time) {
         Moment::new(date, time)
     } else {
         None
     }
 }
 
-/// The seconds of the moment that a text of 19 bytes writes.
-fn moment_at(text: &[u8]) -> Option<u64>
-    requires { length text.now ≡ 19 }
+/// The seconds of the moment that a text writes.
+fn moment_at(text: &[u8; 19]) -> Option<u64>
     ensures { result ≡ moment_at text.now }
 {
-    Some(moment_of(text)?.seconds())
+    moment_of(text).map(|moment| moment.seconds())
 }
 
 /// The period from a beginning to an end that is not before it.
@@ -98,25 +82,26 @@ fn period_between(begin: Option<u64>, end: Option<u64>) -> Option<Period>
     }
 }
 
-/// Whether a text is as long as that of a period, with a hyphen between blanks in the middle.
-fn has_two_parts(bytes: &[u8]) -> bool
-    ensures { result ≡ two_parts bytes.now }
+/// The texts of two moments, if there is nothing but them and a hyphen between blanks in the middle.
+fn two_parts(bytes: &[u8]) -> Option<(&[u8; 19], &[u8; 19])>
+    ensures whether { is_some result ≡ two_parts bytes.now }
+    ensures texts { IfSome result (λ p. (p.0.now ≡ take 19 bytes.now) × (p.1.now ≡ take 19 (drop 22 bytes.now))) }
 {
-    bytes.len() == 41 && same_bytes(&bytes[19..22], b" - ")
+    let (first, rest) = bytes.split_first_chunk()?;
+    let last = rest.strip_prefix(b" - ")?.as_array()?;
+    Some((first, last))
 }
 
 /// The period of a text, read part by part.
 fn read_period(bytes: &[u8]) -> Option<Period>
     ensures { result ≡ period_of bytes.now }
 {
-    if has_two_parts(bytes) {
-        period_between(moment_at(&bytes[0..19]), moment_at(&bytes[22..41]))
-    } else {
-        None
-    }
+    let (first, last) = two_parts(bytes)?;
+    period_between(moment_at(first), moment_at(last))
 }
 
-/// The period that a text tells: `dd.MM.yyyy HH:mm:ss - dd.MM.yyyy HH:mm:ss`, with real moments and an end not before the beginning.
+/// The period that a text tells: `dd.MM.yyyy HH:mm:ss - dd.MM.yyyy HH:mm:ss`, with real moments and an end not before
+/// the beginning.
 /// Such a text has the same bytes in every code.
 pub fn period_of_text(bytes: &[u8]) -> Option<Period>
     ensures answer { PeriodOf bytes.now result }

@@ -6,14 +6,13 @@ ghost use Rattle.validity.specs.ZoneLaws.{KindLaw, SetLaw, ZonesIn};
 use super::answer::Zones;
 use super::groups::listed_words;
 use super::marks::{all_zones, zones_of_words};
-use octets::same_bytes;
 use text_code::ReadingCode;
 
 /// Whether the bytes are `Netz`, which has the same bytes in every code.
 fn is_netz(bytes: &[u8]) -> bool
     ensures { result ≡ bytes_eq bytes.now netz }
 {
-    same_bytes(bytes, b"Netz")
+    bytes == b"Netz".as_slice()
 }
 
 /// The zones that a text tells. Bytes that spell no text tell none.

@@ -1,7 +1,5 @@
-//! Runs the readers of zones and periods, and the choice of a field, on examples.
+//! Runs the readers of zones and periods on examples.
 #![tactic(auto)]
 
-#[cfg(test)]
-mod fields;
 #[cfg(test)]
 mod texts;

@@ -1,41 +1,32 @@
 use std::process::Abort;
 use text_code::{Latin1, ReadingCode, Utf8};
-use validity::{ZoneKind, Zones, period_of_text, zones_of_text};
-
-/// A kind by a number: plain 0, all 1, listed 2.
-fn kind_of(zones: &Zones) -> u8 {
-    match zones.kind {
-        ZoneKind::Plain => 0,
-        ZoneKind::All => 1,
-        ZoneKind::Listed => 2,
-    }
-}
+use validity::{Period, ZoneKind, Zones, period_of_text, zones_of_text};
 
 /// The zones of each text, in the code.
 fn zones_in<C: ReadingCode>(rt: &impl Abort, code: &C) {
-    let cases: [(&[u8], u8, u32); 18] = [
-        (b"Netz", 1, 1000),
-        (b"110 151 152", 2, 3),
-        (b"110 110", 2, 1),
-        (b"000", 2, 1),
-        (b"999", 2, 1),
-        (b"", 0, 0),
-        (b"netz", 0, 0),
-        (b"Netz ", 0, 0),
-        (b"110  151", 0, 0),
-        (b"110 ", 0, 0),
-        (b" 110", 0, 0),
-        (b"1100", 0, 0),
-        (b"11", 0, 0),
-        (b"110\n151", 0, 0),
-        (b"110 15", 0, 0),
-        (b"110,151", 0, 0),
-        (b"11\xC2\xB2", 0, 0),
-        (b"11\xEF\xBC\x90", 0, 0),
+    let cases: [(&[u8], ZoneKind, u32); 18] = [
+        (b"Netz", ZoneKind::All, 1000),
+        (b"110 151 152", ZoneKind::Listed, 3),
+        (b"110 110", ZoneKind::Listed, 1),
+        (b"000", ZoneKind::Listed, 1),
+        (b"999", ZoneKind::Listed, 1),
+        (b"", ZoneKind::Plain, 0),
+        (b"netz", ZoneKind::Plain, 0),
+        (b"Netz ", ZoneKind::Plain, 0),
+        (b"110  151", ZoneKind::Plain, 0),
+        (b"110 ", ZoneKind::Plain, 0),
+        (b" 110", ZoneKind::Plain, 0),
+        (b"1100", ZoneKind::Plain, 0),
+        (b"11", ZoneKind::Plain, 0),
+        (b"110\n151", ZoneKind::Plain, 0),
+        (b"110 15", ZoneKind::Plain, 0),
+        (b"110,151", ZoneKind::Plain, 0),
+        (b"11\xC2\xB2", ZoneKind::Plain, 0),
+        (b"11\xEF\xBC\x90", ZoneKind::Plain, 0),
     ];
     for (text, kind, count) in cases {
         let zones = zones_of_text(code, text);
-        assert_eq!(rt; kind_of(&zones), kind);
+        assert_eq!(rt; zones.kind, kind);
         assert_eq!(rt; zones.count, count);
     }
 }
@@ -48,18 +39,17 @@ fn zones_in_both_codes(rt: HostRuntime) {
 
 #[test]
 fn words_of_a_list(rt: HostRuntime) {
-    let zones = zones_of_text(&Utf8, b"999 151 000 110 152");
-    for (i, word) in zones.words.iter().enumerate() {
-        let expected = match i {
-            0 => 1,
-            1 => 1 << 46,
-            2 => 3 << 23,
-            15 => 1 << 39,
-            _ => 0,
-        };
-        assert_eq!(rt; *word, expected);
-    }
-    assert_eq!(rt; zones.count, 5);
+    let mut words = [0; 16];
+    words[0] = 1;
+    words[1] = 1 << 46;
+    words[2] = 3 << 23;
+    words[15] = 1 << 39;
+    let listed = Zones {
+        kind: ZoneKind::Listed,
+        words,
+        count: 5,
+    };
+    assert_eq!(rt; zones_of_text(&Utf8, b"999 151 000 110 152"), listed);
 }
 
 #[test]
@@ -87,13 +77,7 @@ fn periods(rt: HostRuntime) {
         ),
     ];
     for (text, begin, end) in cases {
-        match period_of_text(text) {
-            Some(period) => {
-                assert_eq!(rt; period.begin, begin);
-                assert_eq!(rt; period.end, end);
-            }
-            None => assert!(rt; false),
-        }
+        assert_eq!(rt; period_of_text(text), Some(Period { begin, end }));
     }
 }
 
@@ -116,6 +100,6 @@ fn plain_periods(rt: HostRuntime) {
         b" 6.07.2010 17:10:55 - 16.07.2010 18:10:55",
     ];
     for text in cases {
-        assert!(rt; period_of_text(text).is_none());
+        assert_eq!(rt; period_of_text(text), None);
     }
 }

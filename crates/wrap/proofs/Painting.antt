@@ -1,5 +1,9 @@
 -- Printing into a grid, character by character and word by word, and the laws of pictures.
-use Rattle.std.proofs.Common.{◌≡◌, ℕ, ◌+◌, ◌-◌, ◌<◌, ◌≤◌, Bool, true, false, cond, ◌&&◌, eqb, List, [], ◌∷◌, ◌++◌, length, Some, None, sym, refl, ap, ◌∙◌, subst, arith}
+use Rattle.std.proofs.Common.{◌≡◌, ℕ, ◌+◌, ◌-◌, ◌*◌, ◌<◌, ◌≤◌, Bool, true, false, cond, ◌&&◌, eqb, List, [], ◌∷◌, ◌++◌, length, replicate, get_or, take, drop, Some, None, sym, refl, ap, ◌∙◌, subst, ⊎_elim, arith}
+use borrow.Rule.Slice.PartMut.{put_mid}
+use Rattle.std.proofs.lemmas.List.{drop-drop, get_or-append_right, get_or_append_left, get_or-drop, get_or-replicate, get_or-take, length-replicate, length-take-le}
+use Rattle.std.proofs.lemmas.Bool.{cases_lt}
+use Rattle.std.proofs.lemmas.Bool.Decides.{nat_tests}
 use Rattle.std.specs.List.{AllByRecursion}
 use Rattle.std.proofs.lemmas.Bool.{cond-true, cond-false}
 use Rattle.page.specs.declared.cell.Cell.{Cell}
@@ -37,6 +41,40 @@ paint_kept a f gs was now h l c p q e = h l c p q ∙ cond-false (covers a l c) 
 
 pub fill_kept : (a : Area) (cell : Cell) (was now : Grid) → Changed was now (fill a cell) → Kept a was now
 fill_kept a cell was now h l c p q e = h l c p q ∙ cond-false (covers a l c) cell (grid_cell was l c) e
+
+-- a part of some cells set to one
+cell_before : (cells part : List Cell) (a k i : ℕ) (d : Cell) → a ≤ length cells → i < a → get_or (put_mid a k cells part) i d ≡ get_or cells i d
+cell_before cells part a k i d within h =
+    get_or_append_left (take a cells) (part ++ drop k (drop a cells)) d i (omega (arith, length-take-le a cells within)) ∙ get_or-take a cells i d h
+
+cell_in : (cells : List Cell) (a k i : ℕ) (cell d : Cell) → a ≤ length cells → a ≤ i → i < a + k → get_or (put_mid a k cells (replicate k cell)) i d ≡ cell
+cell_in cells a k i cell d within low high =
+    get_or-append_right (take a cells) (replicate k cell ++ drop k (drop a cells)) a i d (length-take-le a cells within) low
+    ∙ get_or_append_left (replicate k cell) (drop k (drop a cells)) d (i - a) (omega (arith, length-replicate k cell))
+    ∙ get_or-replicate k (i - a) cell d (omega arith)
+
+cell_behind : (cells : List Cell) (a k i : ℕ) (cell d : Cell) → a ≤ length cells → a + k ≤ i → get_or (put_mid a k cells (replicate k cell)) i d ≡ get_or cells i d
+cell_behind cells a k i cell d within h =
+    get_or-append_right (take a cells) (replicate k cell ++ drop k (drop a cells)) a i d (length-take-le a cells within) (omega arith)
+    ∙ get_or-append_right (replicate k cell) (drop k (drop a cells)) k (i - a) d (length-replicate k cell) (omega arith)
+    ∙ ap (λ xs. get_or xs (i - a - k) d) (drop-drop k a cells)
+    ∙ get_or-drop (a + k) cells (i - a - k) d
+    ∙ ap (λ n. get_or cells n d) (omega arith)
+
+-- the cells of one line from a column on
+pub line_filled : (line column width : ℕ) (cell : Cell) (was now : Grid) → line < 15 → column + width ≤ 72 → length was.cells ≡ 1080 → now.cells ≡ put_mid (line * 72 + column) width was.cells (replicate width cell) → Changed was now (fill (record { line = line; column = column; height = 1; width = width }) cell)
+line_filled line column width cell was now p q long e l c r s =
+    let a : Area = record { line = line; column = column; height = 1; width = width } in
+    let d : Cell = record { character = 0; formatting = 0 } in
+    let first = line * 72 + column in
+    let i = l * 72 + c in
+    let within : first ≤ length was.cells = omega arith in
+    ap (λ cells. get_or cells i d) e
+    ∙ ⊎_elim (λ h. cell_before was.cells (replicate width cell) first width i d within h ∙ sym (cond-false (covers a l c) cell (grid_cell was l c) (grind (arith, nat_tests))))
+    (λ h. ⊎_elim (λ k. cell_in was.cells first width i cell d within h k ∙ sym (cond-true (covers a l c) cell (grid_cell was l c) (grind (arith, nat_tests))))
+    (λ k. cell_behind was.cells first width i cell d within k ∙ sym (cond-false (covers a l c) cell (grid_cell was l c) (grind (arith, nat_tests))))
+    (cases_lt i (first + width)))
+    (cases_lt i first)
 
 pub kept_more : (a : Area) (g h i : Grid) → Kept a g h → Kept a h i → Kept a g i
 kept_more a g h i k m l c p q e = m l c p q e ∙ k l c p q e

@@ -1,12 +1,12 @@
 -- Reading a source at a place.
-use Rattle.std.proofs.Common.{◌≡◌, ℕ, ◌+◌, ◌-◌, ◌^◌, ◌<◌, ◌≤◌, List, [], ◌∷◌, length, get_or, take, drop, IfSome, Some, None, Option, sym, refl, ap, ◌∙◌, subst, arith}
-use Rattle.std.proofs.lemmas.List.{drop-drop, drop_more, length-drop}
+use Rattle.std.proofs.Common.{◌≡◌, ℕ, ◌+◌, ◌-◌, ◌^◌, ◌<◌, ◌≤◌, List, [], ◌∷◌, length, take, drop, IfSome, Some, None, Option, sym, refl, ap, subst, arith}
+use Rattle.std.proofs.lemmas.List.{drop-drop, length-drop}
 use Rattle.text_code.specs.declared.codes.Decoded.{Decoded}
 use Rattle.text_code.specs.Reading.{Front}
 use Rattle.text_code.specs.Spellings.{OneToFour, PrefixFree}
 use Rattle.text_code.proofs.Decoding.{begins_some, front_at, read_within}
 use Rattle.text_code.proofs.Unique.{ReadFirst, read_known, unique_decoding}
-use Rattle.wrap.specs.Sources.{ReadAs, Within, EncodedStands, NumbersStand}
+use Rattle.wrap.specs.Sources.{ReadAs, Within, EncodedStands}
 
 encoded_first : (f : ℕ → Option (List ℕ)) (bytes : List ℕ) (place c : ℕ) (cs : List ℕ) (r : Option Decoded) → ReadFirst f c cs (drop place bytes) r → ReadAs (EncodedStands f bytes) place (c ∷ cs) r
 encoded_first f bytes place c cs None k = let e = k.told in let z : ◌≡◌ {A = ℕ} 0 1 = cc in absurd (omega arith)
@@ -45,11 +45,3 @@ read_nothing st place cs e = subst (λ zs. ReadAs st place zs None) (sym e) tt
 pub encoded_end_lem : (f : ℕ → Option (List ℕ)) (bytes : List ℕ) (place : ℕ) → OneToFour f → PrefixFree f → length bytes ≤ place → (cs : List ℕ) → EncodedStands f bytes place cs → ReadAs (EncodedStands f bytes) place cs None
 encoded_end_lem f bytes place short apart h cs s =
     read_nothing (EncodedStands f bytes) place cs (unique_decoding f short apart cs [] [] (subst (λ zs. EncodedStands f zs 0 cs) (drop_behind bytes place h) s) refl)
-
-pub number_read : (numbers : List ℕ) (place : ℕ) (d : Decoded) → place < length numbers → d ≡ record { character = get_or numbers place 0; length = 1 } → (cs : List ℕ) → NumbersStand numbers place cs → ReadAs (NumbersStand numbers) place cs (Some d)
-number_read numbers place d h e cs s =
-    subst (λ x. ReadAs (NumbersStand numbers) place cs (Some x)) (sym e)
-    (subst (λ zs. ReadAs (NumbersStand numbers) place zs (Some (record { character = get_or numbers place 0; length = 1 }))) (sym (s ∙ drop_more numbers place 0 h)) (refl, refl))
-
-pub number_end : (numbers : List ℕ) (place : ℕ) → length numbers ≤ place → (cs : List ℕ) → NumbersStand numbers place cs → ReadAs (NumbersStand numbers) place cs None
-number_end numbers place h cs s = read_nothing (NumbersStand numbers) place cs (s ∙ drop_behind numbers place h)

@@ -2,7 +2,7 @@ ghost use Rattle.std.specs.Prelude.{◌≡◌};
 ghost use Rattle.wrap.specs.Classes.{class_of};
 
 /// What wrapping does with a character.
-#[derive(Clone, Copy)]
+#[derive(Clone, Copy, PartialEq, Eq, Debug)]
 pub enum CharacterClass {
     /// Parts words.
     Blank,

@@ -1,4 +1,4 @@
-ghost use Rattle.std.specs.Prelude.{◌≡◌, ◌+◌, ◌≤◌};
+ghost use Rattle.std.specs.Prelude.{◌≡◌, ◌+◌, ◌<◌, ◌≤◌};
 
 /// A place of a source, with the row and the column that wrapping has reached there.
 #[derive(Clone, Copy)]
@@ -7,6 +7,14 @@ pub(crate) struct Cursor {
     pub(crate) row: usize,
     pub(crate) column: usize,
     ghost reached: { (row ≤ place) × (column ≤ place) },
+}
+
+/// A step over one character: from the cursor where it stands to the place behind it.
+#[derive(Clone, Copy)]
+pub(crate) struct Step {
+    pub(crate) from: Cursor,
+    pub(crate) end: usize,
+    ghost ahead: { from.place < end },
 }
 
 /// A word of a source: where it starts and ends there, how many characters it has, and where it is printed.

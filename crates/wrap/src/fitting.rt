@@ -15,6 +15,8 @@ impl Word {
     }
 }
 
+// Height and width are two numbers: callers have them in a rectangle of their own, and ask about any two.
+
 /// Whether a text fits a rectangle: no word is longer than the width, and none is printed on a row from the height on.
 pub fn fits_in<S: Characters>(source: &S, height: usize, width: usize) -> bool
     ensures answer { (cs : List ℕ) → S.Characters.stands source.now 0 cs → result ≡ fits height width cs }

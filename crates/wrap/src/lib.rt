@@ -6,6 +6,7 @@ mod checks;
 mod classes;
 mod cursor;
 mod fitting;
+mod frame;
 mod grid;
 mod moves;
 mod printing;

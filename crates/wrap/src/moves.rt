@@ -1,33 +1,31 @@
-ghost use Rattle.std.specs.Prelude.{◌≡◌, ◌+◌, ◌^◌, ◌<◌, ◌≤◌, if◌then◌else◌, nat_lt};
+ghost use Rattle.std.specs.Prelude.{◌≡◌, ◌+◌, if◌then◌else◌, nat_lt};
 
-use super::cursor::{Cursor, Word};
+use super::cursor::{Cursor, Step, Word};
 
-impl Cursor {
-    /// Behind a blank that takes so many places.
-    pub(crate) fn behind_blank(self, length: usize, width: usize) -> Cursor
-        requires { (1 ≤ length) × (self.place + length < 2 ^ 64) }
-        ensures { (result.place ≡ self.place + length) × (result.row ≡ self.row) × (result.column ≡ (if nat_lt self.column width then self.column + 1 else self.column)) }
+impl Step {
+    /// Behind the character, a blank.
+    pub(crate) fn over_blank(self, width: usize) -> Cursor
+        ensures { (result.place ≡ self.end) × (result.row ≡ self.from.row) × (result.column ≡ (if nat_lt self.from.column width then self.from.column + 1 else self.from.column)) }
     {
-        let column = if self.column < width {
-            self.column + 1
+        let column = if self.from.column < width {
+            self.from.column + 1
         } else {
-            self.column
+            self.from.column
         };
         Cursor {
-            place: self.place + length,
-            row: self.row,
+            place: self.end,
+            row: self.from.row,
             column,
         }
     }
 
-    /// Behind a line feed that takes so many places.
-    pub(crate) fn behind_line_feed(self, length: usize) -> Cursor
-        requires { (1 ≤ length) × (self.place + length < 2 ^ 64) }
-        ensures { (result.place ≡ self.place + length) × (result.row ≡ self.row + 1) × (result.column ≡ 0) }
+    /// Behind the character, a line feed.
+    pub(crate) fn over_line_feed(self) -> Cursor
+        ensures { (result.place ≡ self.end) × (result.row ≡ self.from.row + 1) × (result.column ≡ 0) }
     {
         Cursor {
-            place: self.place + length,
-            row: self.row + 1,
+            place: self.end,
+            row: self.from.row + 1,
             column: 0,
         }
     }

@@ -5,6 +5,7 @@ ghost use Rattle.field.specs.Areas.{area_of};
 ghost use Rattle.wrap.specs.Pictures.{AddedLast, Changed, Kept, LastShows, NoneShowsBlank, fill, grid_cell, on_grid, paint, printed_over};
 
 use super::cursor::{Cursor, Word};
+use super::frame::Frame;
 use super::grid::Grid;
 use super::sources::Characters;
 use super::walking::next_word;
@@ -47,17 +48,14 @@ impl Grid {
         self.cells[line * 72 + column] = cell;
     }
 
-    /// Prints one character at a row and a column of a rectangle: nothing where they lie outside.
-    fn print_character(
-        &mut self,
-        rectangle: Rectangle,
-        formatting: u8,
-        row: usize,
-        column: usize,
-        character: u32,
-    )
-        ensures { Changed self.old self.new (paint (area_of rectangle) formatting (record { row = row; column = column; character = character } ∷ [])) }
+    /// Prints one character at a row and a column of a frame: nothing where they lie outside.
+    fn print_character(&mut self, frame: Frame, row: usize, column: usize, character: u32)
+        ensures { Changed self.old self.new (paint (area_of frame.rectangle) frame.formatting (record { row = row; column = column; character = character } ∷ [])) }
     {
+        let Frame {
+            rectangle,
+            formatting,
+        } = frame;
         if row < rectangle.height && column < rectangle.width {
             self.set(
                 rectangle.line + row,
@@ -75,50 +73,36 @@ impl Grid {
         requires { (line < 15) × (column + width ≤ 72) }
         ensures { Changed self.old self.new (fill (record { line = line; column = column; height = 1; width = width }) cell) }
     {
-        for at in 0..width {
-            self.set(line, column + at, cell);
-        }
+        let first = line * 72 + column;
+        self.cells[first..first + width].fill(cell);
     }
 
-    /// Sets all cells of a rectangle to blanks in a formatting.
-    fn clear(&mut self, rectangle: Rectangle, formatting: u8)
-        ensures { Changed self.old self.new (fill (area_of rectangle) (blank_in formatting)) }
+    /// Sets all cells of a frame to blanks.
+    fn clear(&mut self, frame: Frame)
+        ensures { Changed self.old self.new (fill (area_of frame.rectangle) (blank_in frame.formatting)) }
     {
-        let mut blank = Cell::blank();
-        blank.formatting = formatting;
-        for row in 0..rectangle.height {
-            self.fill_line(
-                rectangle.line + row,
-                rectangle.column,
-                rectangle.width,
-                blank,
-            );
+        let blank = Cell {
+            formatting: frame.formatting,
+            ..Cell::blank()
+        };
+        // by row: a rectangle's rows are parts of lines, and no slice of the cells
+        for row in 0..frame.rectangle.height {
+            let line = frame.rectangle.line + row;
+            self.fill_line(line, frame.rectangle.column, frame.rectangle.width, blank);
         }
     }
 
     /// Prints the characters of a word.
-    fn print_word<S: Characters>(
-        &mut self,
-        rectangle: Rectangle,
-        formatting: u8,
-        source: &S,
-        word: Word,
-    )
-        ensures printed { (cs rest : List ℕ) → S.Characters.stands source.now word.start (cs ++ rest) → word.length ≡ length cs → Changed self.old self.new (paint (area_of rectangle) formatting (spread word.row word.column cs)) }
-        ensures kept { Kept (area_of rectangle) self.old self.new }
+    fn print_word<S: Characters>(&mut self, frame: Frame, source: &S, word: Word)
+        ensures printed { (cs rest : List ℕ) → S.Characters.stands source.now word.start (cs ++ rest) → word.length ≡ length cs → Changed self.old self.new (paint (area_of frame.rectangle) frame.formatting (spread word.row word.column cs)) }
+        ensures kept { Kept (area_of frame.rectangle) self.old self.new }
     {
         let mut place = word.start;
         for at in 0..word.length {
             let Some(decoded) = source.read_at(place) else {
                 return;
             };
-            self.print_character(
-                rectangle,
-                formatting,
-                word.row,
-                word.column + at,
-                decoded.character,
-            );
+            self.print_character(frame, word.row, word.column + at, decoded.character);
             place += decoded.length;
         }
     }
@@ -132,10 +116,14 @@ impl Grid {
         ensures last { LastShows }
         ensures none { NoneShowsBlank }
     {
-        self.clear(rectangle, formatting);
+        let frame = Frame {
+            rectangle,
+            formatting,
+        };
+        self.clear(frame);
         let mut cursor = Cursor::start();
         while let Some(word) = next_word(source, cursor, rectangle.width) {
-            self.print_word(rectangle, formatting, source, word);
+            self.print_word(frame, source, word);
             cursor = word.behind();
         }
     }

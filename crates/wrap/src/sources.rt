@@ -1,10 +1,11 @@
-ghost use Rattle.std.specs.Prelude.{◌≡◌, ℕ, ◌-◌, ◌<◌, List, length as len, take, drop, IfSome, slice_index};
+ghost use Rattle.std.specs.Prelude.{◌≡◌, ℕ, ◌-◌, ◌<◌, List, length as len, take, drop, IfSome};
 ghost use Rattle.text_code.specs.Reading.{Front};
 ghost use Rattle.wrap.specs.Sources.{ReadAs, Within, encoded_end, EncodedStands, numbers_end, NumbersStand};
 
 use text_code::{Decoded, ReadingCode};
 
 /// Characters that are read one after another, each at a place that the one before it tells.
+// By place, and no iterator: a word is read twice, to measure it and to print it.
 pub trait Characters {
     // From a place to the end stand exactly these characters.
     ghost stands: { Self → ℕ → List ℕ → Type 0 };
@@ -31,22 +32,12 @@ pub struct Numbers<'a> {
 }
 
 /// What the code reads at a place inside the bytes.
+// By index, not `get`: a part of a text is lent as `&bytes[a..b]` wherever it goes on to be decoded.
 fn decode_at<C: ReadingCode>(code: &C, bytes: &[u8], place: usize) -> Option<Decoded>
     requires { place < len bytes.now }
     ensures front { Front (C.ReadingCode.spells code.now) (take (len bytes.now - place) (drop place bytes.now)) result }
 {
     code.read(&bytes[place..])
-}
-
-/// The number at a place inside a list, as a character of one place.
-fn number_at(characters: &[u32], place: usize) -> Decoded
-    requires { place < len characters.now }
-    ensures { result ≡ record { character = slice_index characters.now place; length = 1 } }
-{
-    Decoded {
-        character: characters[place],
-        length: 1,
-    }
 }
 
 impl<'c, 'b, C: ReadingCode> Characters for Encoded<'c, 'b, C> {
@@ -69,10 +60,10 @@ impl<'a> Characters for Numbers<'a> {
     ghost end = { λ s. numbers_end s.characters.now };
 
     fn read_at(&self, place: usize) -> Option<Decoded> {
-        if place < self.characters.len() {
-            Some(number_at(self.characters, place))
-        } else {
-            None
-        }
+        let character = *self.characters.get(place)?;
+        Some(Decoded {
+            character,
+            length: 1,
+        })
     }
 }

@@ -1,11 +1,11 @@
-ghost use Rattle.std.specs.Prelude.{◌≡◌, ℕ, ◌+◌, ◌^◌, ◌<◌, ◌≤◌, false, List, ◌∷◌, length as len, IfSome};
+ghost use Rattle.std.specs.Prelude.{◌≡◌, ℕ, ◌+◌, ◌<◌, ◌≤◌, false, List, ◌∷◌, length as len, IfSome};
 ghost use Rattle.wrap.specs.Classes.{class_of};
 ghost use Rattle.wrap.specs.Flow.{put, words};
 ghost use Rattle.wrap.specs.Walking.{Arrived, InkRun, NextWord};
 ghost use Rattle.wrap.specs.declared.classes.CharacterClass.TheVariants.{Ink};
 
 use super::classes::{CharacterClass, class_of};
-use super::cursor::{Cursor, Word};
+use super::cursor::{Cursor, Step, Word};
 use super::sources::Characters;
 
 /// A run of ink: how many characters it has, and where it ends.
@@ -33,13 +33,14 @@ fn ink_run<S: Characters>(source: &S, place: usize) -> Run
     Run { length, end }
 }
 
-/// A word of so many characters that begins at the cursor and has an end: printed at the cursor's column if the width
-/// leaves room for it, else at the front of the next row.
-fn place_word(cursor: Cursor, length: usize, end: usize, width: usize) -> Word
-    requires { (1 ≤ length) × (cursor.place + length ≤ end) }
-    ensures place { (result.start ≡ cursor.place) × (result.end ≡ end) × (result.length ≡ length) }
-    ensures put { (cs : List ℕ) → length ≡ len cs → put width cursor.row cursor.column cs ≡ record { row = result.row; column = result.column; characters = cs } }
+/// The word of a run that begins at the cursor: printed at the cursor's column if the width leaves room for it, else at
+/// the front of the next row.
+fn place_word(cursor: Cursor, run: Run, width: usize) -> Word
+    requires { (1 ≤ run.length) × (cursor.place + run.length ≤ run.end) }
+    ensures place { (result.start ≡ cursor.place) × (result.end ≡ run.end) × (result.length ≡ run.length) }
+    ensures put { (cs : List ℕ) → run.length ≡ len cs → put width cursor.row cursor.column cs ≡ record { row = result.row; column = result.column; characters = cs } }
 {
+    let Run { length, end } = run;
     if length <= width.saturating_sub(cursor.column) {
         return Word {
             start: cursor.place,
@@ -58,16 +59,18 @@ fn place_word(cursor: Cursor, length: usize, end: usize, width: usize) -> Word
     }
 }
 
-/// The word that begins at the cursor with a character of so many places.
-fn put_word<S: Characters>(source: &S, cursor: Cursor, first: usize, width: usize) -> Word
-    requires { (1 ≤ first) × (cursor.place + first < 2 ^ 64) }
-    ensures word { (c : ℕ) (cs : List ℕ) → class_of c ≡ Ink → S.Characters.stands source.now cursor.place (c ∷ cs) → S.Characters.stands source.now (cursor.place + first) cs → Arrived (S.Characters.stands source.now) width (words width false cursor.row cursor.column (c ∷ cs)) result }
-    ensures ahead { cursor.place < result.end }
-    ensures within { cursor.place + first ≤ S.Characters.end source.now → result.end ≤ S.Characters.end source.now }
+/// The word that begins with a character of ink.
+fn put_word<S: Characters>(source: &S, first: Step, width: usize) -> Word
+    ensures word { (c : ℕ) (cs : List ℕ) → class_of c ≡ Ink → S.Characters.stands source.now first.from.place (c ∷ cs) → S.Characters.stands source.now first.end cs → Arrived (S.Characters.stands source.now) width (words width false first.from.row first.from.column (c ∷ cs)) result }
+    ensures ahead { first.from.place < result.end }
+    ensures within { first.end ≤ S.Characters.end source.now → result.end ≤ S.Characters.end source.now }
 {
-    let run = ink_run(source, cursor.place + first);
-    let length = 1 + run.length;
-    place_word(cursor, length, run.end, width)
+    let behind = ink_run(source, first.end);
+    let run = Run {
+        length: 1 + behind.length,
+        end: behind.end,
+    };
+    place_word(first.from, run, width)
 }
 
 /// The next word from the cursor on.
@@ -77,10 +80,14 @@ pub(crate) fn next_word<S: Characters>(source: &S, from: Cursor, width: usize) -
 {
     let mut cursor = from;
     while let Some(decoded) = source.read_at(cursor.place) {
+        let step = Step {
+            from: cursor,
+            end: cursor.place + decoded.length,
+        };
         cursor = match class_of(decoded.character) {
-            CharacterClass::Blank => cursor.behind_blank(decoded.length, width),
-            CharacterClass::LineFeed => cursor.behind_line_feed(decoded.length),
-            CharacterClass::Ink => return Some(put_word(source, cursor, decoded.length, width)),
+            CharacterClass::Blank => step.over_blank(width),
+            CharacterClass::LineFeed => step.over_line_feed(),
+            CharacterClass::Ink => return Some(put_word(source, step, width)),
         };
     }
     None

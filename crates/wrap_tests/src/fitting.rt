@@ -1,14 +1,6 @@
 use text_code::{Latin1, Utf8};
-use wrap::{TextFault, check_characters, check_text};
-
-/// Whether the text fits, or the place of its first fault.
-fn told(res: Result<(), TextFault>) -> Result<bool, usize> {
-    match res {
-        Ok(()) => Ok(true),
-        Err(TextFault::TooLarge) => Ok(false),
-        Err(TextFault::Character(place)) => Err(place),
-    }
-}
+use wrap::TextFault::{Character, TooLarge};
+use wrap::{check_characters, check_text};
 
 #[test]
 fn fits_by_words(rt: HostRuntime) {
@@ -41,46 +33,46 @@ fn fits_by_words(rt: HostRuntime) {
         (b"\xc3\x84\xc3\x96\xc3\x9c", 15, 2, false),
     ];
     for (text, height, width, fits) in cases {
-        assert_eq!(rt; told(check_text(&Utf8, text, height, width)), Ok(fits));
+        let expected = if fits { Ok(()) } else { Err(TooLarge) };
+        assert_eq!(rt; check_text(&Utf8, text, height, width), expected);
     }
 }
 
 #[test]
 fn faults_come_before_the_fit(rt: HostRuntime) {
-    assert_eq!(rt; told(check_text(&Utf8, b"AB\x1fCDE", 1, 2)), Err(2));
-    assert_eq!(rt; told(check_text(&Utf8, b"ABCDE\xff", 1, 1)), Err(5));
-    assert_eq!(rt; told(check_text(&Utf8, b"\xc3", 1, 1)), Err(0));
-    assert_eq!(rt; told(check_text(&Latin1, b"\xc4\xd6\xdc", 1, 3)), Ok(true));
-    assert_eq!(rt; told(check_text(&Latin1, b"\xc4\xd6\xdc", 1, 2)), Ok(false));
-    assert_eq!(rt; told(check_text(&Latin1, b"AB\x9f", 1, 1)), Err(2));
+    assert_eq!(rt; check_text(&Utf8, b"AB\x1fCDE", 1, 2), Err(Character(2)));
+    assert_eq!(rt; check_text(&Utf8, b"ABCDE\xff", 1, 1), Err(Character(5)));
+    assert_eq!(rt; check_text(&Utf8, b"\xc3", 1, 1), Err(Character(0)));
+    assert_eq!(rt; check_text(&Latin1, b"\xc4\xd6\xdc", 1, 3), Ok(()));
+    assert_eq!(rt; check_text(&Latin1, b"\xc4\xd6\xdc", 1, 2), Err(TooLarge));
+    assert_eq!(rt; check_text(&Latin1, b"AB\x9f", 1, 1), Err(Character(2)));
 }
 
 #[test]
 fn numbers_are_checked_by_index(rt: HostRuntime) {
+    assert_eq!(rt; check_characters(&Utf8, &[196, 8364, 65], 1, 3), Ok(()));
     assert_eq!(rt;
-        told(check_characters(&Utf8, &[196, 8364, 65], 1, 3)),
-        Ok(true)
+        check_characters(&Utf8, &[196, 8364, 65], 1, 2),
+        Err(TooLarge)
     );
     assert_eq!(rt;
-        told(check_characters(&Utf8, &[196, 8364, 65], 1, 2)),
-        Ok(false)
+        check_characters(&Latin1, &[196, 8364, 65], 1, 2),
+        Err(Character(1))
     );
     assert_eq!(rt;
-        told(check_characters(&Latin1, &[196, 8364, 65], 1, 2)),
-        Err(1)
+        check_characters(&Utf8, &[65, 32, 66, 127], 1, 1),
+        Err(Character(3))
     );
-    assert_eq!(rt;
-        told(check_characters(&Utf8, &[65, 32, 66, 127], 1, 1)),
-        Err(3)
-    );
-    assert_eq!(rt; told(check_characters(&Utf8, &[], 1, 1)), Ok(true));
+    assert_eq!(rt; check_characters(&Utf8, &[], 1, 1), Ok(()));
 }
 
 /// 15 words of 72 characters, each with a line feed behind it.
 fn full_area() -> [u8; 1095] {
     let mut text = [65; 1095];
-    for row in 0..15 {
-        text[row * 73 + 72] = 10;
+    for row in text.chunks_exact_mut(73) {
+        if let Some(last) = row.last_mut() {
+            *last = 10;
+        }
     }
     text
 }
@@ -88,8 +80,8 @@ fn full_area() -> [u8; 1095] {
 #[test]
 fn a_full_area_fits(rt: HostRuntime) {
     let text = full_area();
-    assert_eq!(rt; told(check_text(&Utf8, &[65; 1095], 15, 72)), Ok(false));
-    assert_eq!(rt; told(check_text(&Utf8, &text, 15, 72)), Ok(true));
-    assert_eq!(rt; told(check_text(&Utf8, &text, 14, 72)), Ok(false));
-    assert_eq!(rt; told(check_text(&Utf8, &text, 15, 71)), Ok(false));
+    assert_eq!(rt; check_text(&Utf8, &[65; 1095], 15, 72), Err(TooLarge));
+    assert_eq!(rt; check_text(&Utf8, &text, 15, 72), Ok(()));
+    assert_eq!(rt; check_text(&Utf8, &text, 14, 72), Err(TooLarge));
+    assert_eq!(rt; check_text(&Utf8, &text, 15, 71), Err(TooLarge));
 }

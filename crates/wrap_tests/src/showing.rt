@@ -30,15 +30,10 @@ fn shows(
 
 /// How many cells have a formatting.
 fn formatted(grid: &Grid, formatting: u8) -> usize {
-    let mut count: usize = 0;
-    for i in 0..1080usize {
-        if let Some(cell) = grid.cell(i / 72, i % 72)
-            && cell.formatting == formatting
-        {
-            count = count.saturating_add(1);
-        }
-    }
-    count
+    (0..1080usize)
+        .filter_map(|i| grid.cell(i / 72, i % 72))
+        .filter(|cell| cell.formatting == formatting)
+        .count()
 }
 
 #[test]
@@ -57,9 +52,7 @@ fn prints_in_the_rectangle_alone(rt: HostRuntime) -> Result<(), Fail> {
     ];
     for (text, height, width, expected) in cases {
         let mut grid = Grid::new();
-        let Some(rectangle) = Rectangle::new(3, 5, height, width) else {
-            return Err(Fail::new("no rectangle"));
-        };
+        let rectangle = Rectangle::new(3, 5, height, width).ok_or("no rectangle")?;
         grid.print(
             rectangle,
             2,
@@ -79,12 +72,8 @@ fn prints_in_the_rectangle_alone(rt: HostRuntime) -> Result<(), Fail> {
 #[test]
 fn a_later_field_lies_over_an_earlier(rt: HostRuntime) -> Result<(), Fail> {
     let mut grid = Grid::new();
-    let Some(first) = Rectangle::new(0, 0, 1, 3) else {
-        return Err(Fail::new("no rectangle"));
-    };
-    let Some(second) = Rectangle::new(0, 1, 1, 2) else {
-        return Err(Fail::new("no rectangle"));
-    };
+    let first = Rectangle::new(0, 0, 1, 3).ok_or("no rectangle")?;
+    let second = Rectangle::new(0, 1, 1, 2).ok_or("no rectangle")?;
     grid.print(
         first,
         1,

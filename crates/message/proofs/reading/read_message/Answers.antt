@@ -1,7 +1,7 @@
 use Rattle.std.proofs.Common.{ap, ◌∙◌, arith}
 use Rattle.message.proofs.SummaryLaws.{summary_told}
 use Rattle.message.proofs.reading.read_message.Goals as goal
-use Rattle.message.specs.Rooms.{room_of}
+use Rattle.ticket.specs.Rooms.{room_of}
 use Rattle.message.specs.Summaries.{summary_in}
 use Rattle.ticket.proofs.TicketLaws.{accepts_exactly, bytes_determine}
 
@@ -11,7 +11,7 @@ returns g c =
     let short = g.met.C.ReadingCode.short c.args.code.now in
     let bounded = g.met.C.ReadingCode.bounded c.args.code.now in
     let apart = g.met.C.ReadingCode.apart c.args.code.now in
-    let room = room_of c.args.limits in
+    let room = room_of c.args.room in
     let m = c.args.message.now in
     record {
       value = c.contents_of.ensures.value ∙ ap (λ r. summary_in f r m) c.capped.ensures ∙ summary_told f short bounded apart room m;

@@ -26,8 +26,8 @@ loop-decoded-preserved-in-Blank g c =
     let st = g.S.Characters.stands c.args.source.now in
     let w = c.args.width in
     let column = cond (ltb at.column w) (at.column + 1) at.column in
-    let e = c.behind_blank-cursor.ensures in
-    let next = c.behind_blank-cursor.result in (
+    let e = c.over_blank-cursor.ensures in
+    let next = c.over_blank-cursor.result in (
       λ cs s. left_cursor st w (at.place + d.length) at.row column next.place next.row next.column (words w false c.args.from.row c.args.from.column cs) e.0 e.1 e.2
           (left_more st w at.place at.row at.column at.row column d (words w false c.args.from.row c.args.from.column cs) c.in-Some.ensures.character
           (λ ds. words_class w false at.row at.column d.character ds Blank (sym c.in-Blank.ensures.class)) (i.0 cs s)),
@@ -41,8 +41,8 @@ loop-decoded-preserved g c =
     let d = c.in-Some.decoded in
     let st = g.S.Characters.stands c.args.source.now in
     let w = c.args.width in
-    let e = c.behind_line_feed-cursor.ensures in
-    let next = c.behind_line_feed-cursor.result in (
+    let e = c.over_line_feed-cursor.ensures in
+    let next = c.over_line_feed-cursor.result in (
       λ cs s. left_cursor st w (at.place + d.length) (at.row + 1) 0 next.place next.row next.column (words w false c.args.from.row c.args.from.column cs) e.0 e.1 e.2
           (left_more st w at.place at.row at.column (at.row + 1) 0 d (words w false c.args.from.row c.args.from.column cs) c.in-Some.ensures.character
           (λ ds. words_class w false at.row at.column d.character ds LineFeed (sym c.in-LineFeed.ensures.class)) (i.0 cs s)),

@@ -3,4 +3,4 @@ use Rattle.wrap.specs.Pictures.{Changed, fill}
 use Rattle.wrap.proofs.grid.Grid.clear.Given as goal
 
 abbrev pub invariant-loop-row : goal.invariant-loop-row
-invariant-loop-row l = Changed l.initial.self l.self (fill (record { line = l.rectangle.line; column = l.rectangle.column; height = l.row; width = l.rectangle.width }) (blank_in l.formatting))
+invariant-loop-row l = Changed l.initial.self l.self (fill (record { line = l.frame.rectangle.line; column = l.frame.rectangle.column; height = l.row; width = l.frame.rectangle.width }) (blank_in l.frame.formatting))

@@ -6,7 +6,7 @@ use Rattle.wrap.proofs.grid.Grid.print_word.Goals as goal
 pub loop-at-init : goal.loop-at-init
 loop-at-init g c =
     let word = c.args.word in
-    (λ cs rest s e. word_start (g.S.Characters.stands c.args.source.now) (area_of c.args.rectangle) c.args.formatting word.row word.column word.start cs rest c.args.self.now s, λ l k p q e. refl)
+    (λ cs rest s e. word_start (g.S.Characters.stands c.args.source.now) (area_of c.args.frame.rectangle) c.args.frame.formatting word.row word.column word.start cs rest c.args.self.now s, λ l k p q e. refl)
 
 pub returns-in_default : goal.returns-in_default
 returns-in_default g c =
@@ -15,7 +15,7 @@ returns-in_default g c =
     record {
       printed = λ cs rest s e.
           let h : c.loop-at.at < length cs = omega (arith, e, c.loop-at-test.true) in
-          word_ended (g.S.Characters.stands c.args.source.now) (area_of c.args.rectangle) c.args.formatting word.row word.column c.loop-at.at c.loop-at.place cs rest c.args.self.now c.loop-at.self h c.in_default.ensures.character (i.0 cs rest s e);
+          word_ended (g.S.Characters.stands c.args.source.now) (area_of c.args.frame.rectangle) c.args.frame.formatting word.row word.column c.loop-at.at c.loop-at.place cs rest c.args.self.now c.loop-at.self h c.in_default.ensures.character (i.0 cs rest s e);
       kept = i.1;
     }
 
@@ -23,15 +23,15 @@ pub loop-at-preserved : goal.loop-at-preserved
 loop-at-preserved g c =
     let word = c.args.word in
     let i = c.loop-at.invariant in
-    let a : Area = area_of c.args.rectangle in
+    let a : Area = area_of c.args.frame.rectangle in
     let was = c.args.self.now in
     let before = c.loop-at.self in
     let after = c.print_character.new.self in
     let d = c.in-Some.decoded in (
       λ cs rest s e.
           let h : c.loop-at.at < length cs = omega (arith, e, c.loop-at-test.true) in
-          word_more (g.S.Characters.stands c.args.source.now) a c.args.formatting word.row word.column c.loop-at.at c.loop-at.place cs rest was before after d h c.in-Some.ensures.character c.print_character.ensures (i.0 cs rest s e),
-      kept_more a was before after i.1 (paint_kept a c.args.formatting (record { row = word.row; column = word.column + c.loop-at.at; character = d.character } ∷ []) before after c.print_character.ensures),
+          word_more (g.S.Characters.stands c.args.source.now) a c.args.frame.formatting word.row word.column c.loop-at.at c.loop-at.place cs rest was before after d h c.in-Some.ensures.character c.print_character.ensures (i.0 cs rest s e),
+      kept_more a was before after i.1 (paint_kept a c.args.frame.formatting (record { row = word.row; column = word.column + c.loop-at.at; character = d.character } ∷ []) before after c.print_character.ensures),
     )
 
 pub returns : goal.returns
@@ -41,6 +41,6 @@ returns g c =
     record {
       printed = λ cs rest s e.
           let h : length cs ≤ c.loop-at.at = omega (arith, e, c.loop-at-test.false) in
-          word_all (g.S.Characters.stands c.args.source.now) (area_of c.args.rectangle) c.args.formatting word.row word.column c.loop-at.at c.loop-at.place cs rest c.args.self.now c.loop-at.self h (i.0 cs rest s e);
+          word_all (g.S.Characters.stands c.args.source.now) (area_of c.args.frame.rectangle) c.args.frame.formatting word.row word.column c.loop-at.at c.loop-at.place cs rest c.args.self.now c.loop-at.self h (i.0 cs rest s e);
       kept = i.1;
     }

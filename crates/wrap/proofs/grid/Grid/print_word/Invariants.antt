@@ -6,5 +6,5 @@ use Rattle.wrap.proofs.grid.Grid.print_word.Given as goal
 
 abbrev pub invariant-loop-at : goal.invariant-loop-at
 invariant-loop-at g l =
-    ((cs rest : List ℕ) → g.S.Characters.stands l.source l.word.start (cs ++ rest) → l.word.length ≡ length cs → WordLeft (g.S.Characters.stands l.source) (area_of l.rectangle) l.formatting l.word.row l.word.column l.at l.place cs rest l.initial.self l.self)
-    × Kept (area_of l.rectangle) l.initial.self l.self
+    ((cs rest : List ℕ) → g.S.Characters.stands l.source l.word.start (cs ++ rest) → l.word.length ≡ length cs → WordLeft (g.S.Characters.stands l.source) (area_of l.frame.rectangle) l.frame.formatting l.word.row l.word.column l.at l.place cs rest l.initial.self l.self)
+    × Kept (area_of l.frame.rectangle) l.initial.self l.self

@@ -1,0 +1,12 @@
+use Rattle.std.proofs.Common.{◌≡◌, ◌-◌, ◌≤◌}
+use Rattle.message.proofs.layout.Layout.total_fields.Given as goal
+use Rattle.message.specs.Items.{seen}
+use Rattle.message.specs.Totals.{behind}
+use Rattle.ticket.specs.Reading.{fields_at}
+
+-- the fields that are left, behind those read, come to what all of them come to
+abbrev pub invariant-loop-number : goal.invariant-loop-number
+invariant-loop-number g l =
+    (seen (behind l.place l.bytes) (fields_at (g.C.ReadingCode.spells l.code) l.self.message.now l.self.end (l.room - l.bytes) (l.count - l.number) l.number l.place)
+    ≡ seen (behind 73 0) (fields_at (g.C.ReadingCode.spells l.code) l.self.message.now l.self.end l.room l.count 0 73))
+    × (l.bytes ≤ l.room)

@@ -1,0 +1,21 @@
+use refusal::SheetFault;
+use std::io;
+
+/// Why printing a ticket stopped: the message is refused, or the output is.
+#[derive(Drop)]
+pub(crate) enum Failure {
+    Refused(SheetFault),
+    Output(io::Error),
+}
+
+impl From<SheetFault> for Failure {
+    fn from(fault: SheetFault) -> Failure {
+        Failure::Refused(fault)
+    }
+}
+
+impl From<io::Error> for Failure {
+    fn from(error: io::Error) -> Failure {
+        Failure::Output(error)
+    }
+}
