@@ -35,6 +35,7 @@ pub fn is_leap_year(year: u16) -> bool
 }
 
 // month and year stay two numbers: a `Date` has a day besides
+// 0 and no Option: every month has an answer here, and one that is none has no day
 /// The number of days of a month, 0 where `month` is not 1 to 12.
 pub fn month_length(month: u8, year: u16) -> u8
     ensures answer { result ≡ month_length month year }

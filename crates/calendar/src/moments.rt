@@ -13,6 +13,7 @@ pub struct Moment {
 }
 
 impl Moment {
+    // an Option, no TryFrom: it is made of two values, and no error would tell more than that one is not real
     /// The moment of a date and a time of day, if both are real.
     pub fn new(date: Date, time: Time) -> Option<Moment>
         ensures accepts { is_some result ≡ (real_date date && real_time time) }

@@ -3,11 +3,13 @@
 
 mod cells;
 mod formatting;
+mod has_cells;
 mod making;
 mod placed;
 mod rectangle;
 
 pub use cells::Cells;
 pub use formatting::Formatting;
+pub use has_cells::HasCells;
 pub use placed::Placed;
 pub use rectangle::Rectangle;

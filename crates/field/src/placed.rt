@@ -1,29 +1,20 @@
 ghost use Rattle.std.specs.Prelude.{◌≡◌};
-ghost use Rattle.field.specs.Areas.{Area, area_of, area_of_cells};
+ghost use Rattle.field.specs.declared.rectangle.Rectangle.{Rectangle};
 
-use super::cells::Cells;
 use super::rectangle::Rectangle;
 
-/// What has cells.
+/// What stands in a rectangle.
 pub trait Placed {
-    ghost place: { Self → Area };
+    ghost place: { Self → Rectangle };
 
-    fn cells(&self) -> Cells
-        ensures value { area_of_cells result ≡ place self.now };
-}
-
-impl Placed for Cells {
-    ghost place = { area_of_cells };
-
-    fn cells(&self) -> Cells {
-        *self
-    }
+    fn rectangle(&self) -> Rectangle
+        ensures value { result ≡ place self.now };
 }
 
 impl Placed for Rectangle {
-    ghost place = { area_of };
+    ghost place = { λ x. x };
 
-    fn cells(&self) -> Cells {
-        Cells::from(*self)
+    fn rectangle(&self) -> Rectangle {
+        *self
     }
 }

@@ -1,13 +1,13 @@
 -- Fields laid one over another: which of those before a number counts at a cell.
-use Rattle.std.proofs.Common.{◌≡◌, ℕ, zero, suc, ◌+◌, ◌<◌, ◌≤◌, ◌-◌, min, max, Bool, true, false, not, ◌&&◌, ltb, List, [], ◌∷◌, map, length, drop, length-drop, get_or, Some, None, Option, sym, refl, ap, ◌∙◌, subst, ⊎_elim, arith}
+use Rattle.std.proofs.Common.{◌≡◌, ℕ, zero, suc, ◌+◌, ◌<◌, ◌≤◌, ◌-◌, min, max, Bool, true, false, cond, not, ◌&&◌, ltb, List, [], ◌∷◌, map, length, drop, length-drop, get_or, Some, None, Option, sym, refl, ap, ◌∙◌, subst, ⊎_elim, arith}
 use Rattle.std.proofs.lemmas.List.{drop-map, get_or-drop, get_or-map, length-map}
 use Rattle.std.proofs.lemmas.List.Folds.{list_all-map}
 use Rattle.std.proofs.lemmas.Bool.{and_parts, and_from, both_ways, cases_Bool, cases_order, cond-true, cond-false, not-true, not_from_false}
 use Rattle.std.proofs.lemmas.Bool.Decides.{nat_tests}
 use Rattle.std.specs.List.{HoldsAt, list_all}
-use Rattle.field.specs.Areas.{Area, covers}
+use Rattle.field.specs.Areas.{Area, covers, lawful}
 use Rattle.field.specs.Fields.{Field}
-use Rattle.field_layers.specs.Layers.{AtMostOne, Counts, CountsAt, CountsIn, LastOn, LawfulCovers, MeetWhereShared, Shared, area_at, areas, begins, begins_on, counting, meets, meets_none, numbered}
+use Rattle.field_layers.specs.Layers.{AtMostOne, Counts, CountsAt, CountsIn, LastOn, LawfulCounting, LawfulCovers, LawfulRectangles, MeetWhereShared, Shared, area_at, areas, begins, begins_on, counting, meets, meets_none, numbered}
 
 -- a range from a to before a + h, and one from b to before b + k
 ranges_meet : (a h b k : ℕ) → ltb (max a b) (min (a + h) (b + k)) ≡ true → (max a b < a + h) × (max a b < b + k)
@@ -72,6 +72,14 @@ parted a b u =
 abbrev no_area : Area
 no_area = record { line = 0; column = 0; height = 0; width = 0 }
 
+pub lawful_area_lem : LawfulRectangles
+lawful_area_lem x =
+    let p : 1 ≤ x.height = x.lawful.0 in
+    let q : 1 ≤ x.width = x.lawful.1 in
+    let r : x.line + x.height ≤ 15 = x.lawful.2 in
+    let s : x.column + x.width ≤ 72 = x.lawful.3 in
+    grind (arith, nat_tests)
+
 pub lawful_covers : LawfulCovers
 lawful_covers a l c w h =
     let p : a.line ≡ l = grind (arith, nat_tests) in
@@ -79,6 +87,18 @@ lawful_covers a l c w h =
     let x : 1 ≤ a.height = grind (arith, nat_tests) in
     let y : 1 ≤ a.width = grind (arith, nat_tests) in
     covering a l c (record { line_from = omega arith; line_to = omega arith; column_from = omega arith; column_to = omega arith })
+
+-- a lawful area begins on a cell where it begins
+begun_covers : (a : Area) (l c : ℕ) (p : Bool) → begins a l c ≡ p → lawful a ≡ true → begins_on a l c ≡ begins a l c
+begun_covers a l c true h w = and_from (begins a l c) (covers a l c) h (lawful_covers a l c w h) ∙ sym h
+begun_covers a l c false h w = ap (λ b. b && covers a l c) h ∙ sym h
+
+pub lawful_counting : LawfulCounting
+lawful_counting [] l c w = refl
+lawful_counting (x ∷ xs) l c w =
+    let p = and_parts (lawful x.area) (list_all (λ y. lawful y.area) xs) w in
+    ap (λ b. cond (b && meets_none x.area (areas xs)) (Some x) (counting l c xs)) (begun_covers x.area l c (begins x.area l c) refl p.0)
+    ∙ ap (cond (begins x.area l c && meets_none x.area (areas xs)) (Some x)) (lawful_counting xs l c p.1)
 
 pub at_most_one : AtMostOne
 at_most_one xs l c j k x y =

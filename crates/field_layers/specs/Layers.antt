@@ -1,8 +1,9 @@
 -- Fields in their order, each over the earlier ones, and which of them counts at a cell.
 use Rattle.std.specs.Prelude.{◌≡◌, ℕ, ◌+◌, ◌<◌, min, max, Bool, true, false, cond, not, ◌&&◌, List, [], ◌∷◌, map, length, Some, None, Decides, Option, ◌==◌, nat_lt, slice_index_or}
 use Rattle.std.specs.List.{HoldsAt, list_all, slice_get}
-use Rattle.field.specs.Areas.{Area, covers, lawful}
+use Rattle.field.specs.Areas.{Area, area_of, covers, lawful}
 use Rattle.field.specs.Fields.{Field}
+use Rattle.field.specs.declared.rectangle.Rectangle.{Rectangle}
 
 -- whether two areas have a cell in common
 abbrev pub meets : Area → Area → Bool
@@ -26,6 +27,10 @@ begins a l c = a.line == l && a.column == c
 -- whether an area begins at a cell and covers it: one without cells covers none
 abbrev pub begins_on : Area → ℕ → ℕ → Bool
 begins_on a l c = begins a l c && covers a l c
+
+-- the areas of rectangles are lawful
+abbrev pub LawfulRectangles : Type 0
+LawfulRectangles = (x : Rectangle) → lawful (area_of x) ≡ true
 
 -- a lawful area covers the cell where it begins
 abbrev pub LawfulCovers : Type 0
@@ -68,6 +73,15 @@ meets_none a bs = list_all (λ b. not (meets a b)) bs
 abbrev pub counting : ℕ → ℕ → List Field → Option Field
 counting l c [] = None
 counting l c (x ∷ xs) = cond (begins_on x.area l c && meets_none x.area (areas xs)) (Some x) (counting l c xs)
+
+-- the field that begins at a cell and meets no later one, whether it covers the cell or not
+abbrev pub counting_begun : ℕ → ℕ → List Field → Option Field
+counting_begun l c [] = None
+counting_begun l c (x ∷ xs) = cond (begins x.area l c && meets_none x.area (areas xs)) (Some x) (counting_begun l c xs)
+
+-- of fields with lawful areas, both tell the same
+abbrev pub LawfulCounting : Type 0
+LawfulCounting = (xs : List Field) (l c : ℕ) → list_all (λ x. lawful x.area) xs ≡ true → counting l c xs ≡ counting_begun l c xs
 
 -- the field with a number, if there is a number
 abbrev pub numbered : List Field → Option ℕ → Option Field

@@ -1,6 +1,4 @@
-ghost use Rattle.field.specs.Areas.{area_of};
-
-use field::{Cells, Formatting, Placed, Rectangle};
+use field::{Formatting, Placed, Rectangle};
 use field_layers::{counting_field, period_field, zone_field};
 use std::test::Fail;
 
@@ -13,18 +11,15 @@ struct Entry {
 }
 
 impl Placed for Entry {
-    ghost place = { λ x. area_of x.rectangle };
+    ghost place = { λ x. x.rectangle };
 
-    fn cells(&self) -> Cells {
-        self.rectangle.into()
+    fn rectangle(&self) -> Rectangle {
+        self.rectangle
     }
 }
 
 fn field(line: usize, column: usize, height: usize, width: usize) -> Result<Rectangle, Fail> {
-    match Rectangle::new(line, column, height, width) {
-        Some(rectangle) => Ok(rectangle),
-        None => Err(Fail::new("no rectangle")),
-    }
+    Ok(Rectangle::new(line, column, height, width).ok_or("no rectangle")?)
 }
 
 #[test]
@@ -59,9 +54,7 @@ fn other_cells(rt: HostRuntime) -> Result<(), Fail> {
 
 #[test]
 fn entries_that_hold_more(rt: HostRuntime) -> Result<(), Fail> {
-    let Some(formatting) = Formatting::new(1) else {
-        return Err(Fail::new("no formatting"));
-    };
+    let formatting = Formatting::new(1).ok_or("no formatting")?;
     let first = Entry {
         rectangle: field(1, 12, 1, 39)?,
         formatting,

@@ -7,7 +7,7 @@ ghost use Rattle.head.specs.Told.{Alone, Exactly, ReadsBack, told};
 
 use super::head::Head;
 use super::items::{Edition, HeadItems};
-use super::reading::{head_fault, item_at, read_items};
+use super::reading::{head_fault, read_items};
 use lists::lay;
 use octets::number_digits;
 use record::{RecordKind, read_start};
@@ -56,23 +56,26 @@ fn items_at_front(message: &[u8]) -> Result<HeadItems, RecordFault>
     ensures { result ≡ head_at message.now }
 {
     read_start(message, RecordKind::Head, 0, 0)?;
-    let items = read_items(&item_at(message, 0))?;
+    let items = read_items(message.first_chunk().unwrap())?;
     Ok(items)
 }
 
-impl Head {
-    // a constructor, no TryFrom: items that are handed in are not a head written otherwise
-    /// A head of these items, or refusal 7 where one of them is unlawful.
-    pub fn new(items: HeadItems) -> Result<Head, ItemFault>
-        ensures { told result ≡ then (demand (lawful items) (fault_at 0)) (λ _. Ok items) }
-    {
+/// A head of these items, or refusal 7 where one of them is unlawful.
+impl TryFrom<HeadItems> for Head {
+    type Error = ItemFault;
+
+    ghost try_from_gives = { λ x r. told r ≡ then (demand (lawful x) (fault_at 0)) (λ _. Ok x) };
+
+    fn try_from(items: HeadItems) -> Result<Head, ItemFault> {
         if items.are_lawful() {
             Ok(Head::of(items))
         } else {
             Err(head_fault(0))
         }
     }
+}
 
+impl Head {
     /// The head at the front of a message.
     pub fn read(message: &[u8]) -> Result<Head, RecordFault>
         ensures value { told result ≡ head_at message.now }

@@ -4,7 +4,7 @@ ghost use Rattle.head.specs.Heads.{lawful};
 use super::items::HeadItems;
 
 /// A head whose items are lawful.
-#[derive(Clone, Copy, PartialEq, Eq, Debug)]
+#[derive(Clone, Copy)]
 pub struct Head {
     items: HeadItems,
     ghost checked: { lawful items ≡ true },

@@ -1,7 +1,7 @@
 use calendar::Date;
 
 /// When a ticket was made: a minute, as somebody hands it in.
-#[derive(Clone, Copy, PartialEq, Eq, Debug)]
+#[derive(Clone, Copy)]
 pub struct Edition {
     pub date: Date,
     pub hour: u8,
@@ -9,7 +9,7 @@ pub struct Edition {
 }
 
 /// The items of a head as somebody hands them in: they may be unlawful.
-#[derive(Clone, Copy, PartialEq, Eq, Debug)]
+#[derive(Clone, Copy)]
 pub struct HeadItems {
     /// the carrier's code (RICS), at most 9999
     pub carrier: u16,
@@ -17,7 +17,7 @@ pub struct HeadItems {
     pub key: [u8; 20],
     pub edition: Edition,
     /// the sum of 1 (international), 2 (edited by an agent) and 4 (specimen)
-    // the record's digit, not a set of flags: a digit handed in may be unlawful
+    // a number, not a type of lawful flags alone: items are handed in unchecked
     pub flags: u8,
     /// two letters
     pub language: [u8; 2],

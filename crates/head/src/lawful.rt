@@ -25,7 +25,7 @@ pub(crate) fn is_lawful_edition(edition: &Edition) -> bool
 pub(crate) fn is_lawful_language(language: &[u8; 2]) -> bool
     ensures { result ≡ lawful_language language.now }
 {
-    language[0].is_ascii_alphabetic() && language[1].is_ascii_alphabetic()
+    language.iter().all(|byte| byte.is_ascii_alphabetic())
 }
 
 pub(crate) fn is_lawful_second(language: &[u8; 2]) -> bool

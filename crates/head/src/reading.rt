@@ -1,5 +1,4 @@
-ghost use Rattle.std.specs.Prelude.{◌≡◌, ◌+◌, ◌≤◌, length};
-ghost use Rattle.octets.specs.Bytes.{part};
+ghost use Rattle.std.specs.Prelude.{◌≡◌};
 ghost use Rattle.head.specs.Reading.{edition_at, fault_at, flags_at, items_at};
 
 use super::items::{Edition, HeadItems};
@@ -15,16 +14,6 @@ pub(crate) fn head_fault(place: usize) -> ItemFault
         cause: ItemCause::HeadItem,
         site: Site::in_record(0, place),
     }
-}
-
-/// The item at a place, as many bytes as the array has places.
-pub(crate) fn item_at<const WIDTH: usize>(bytes: &[u8], place: usize) -> [u8; WIDTH]
-    requires { place + WIDTH ≤ length bytes.now }
-    ensures { result ≡ part bytes.now place WIDTH }
-{
-    let mut item = [0; WIDTH];
-    item.copy_from_slice(&bytes[place..place + WIDTH]);
-    item
 }
 
 fn read_edition(bytes: &[u8; 53]) -> Result<Edition, ItemFault>
@@ -56,13 +45,13 @@ pub(crate) fn read_items(bytes: &[u8; 53]) -> Result<HeadItems, ItemFault>
     ensures { result ≡ items_at bytes.now }
 {
     let carrier = read_number(&bytes[12..16], head_fault(12))? as u16;
-    let key = item_at(bytes, 16);
+    let key = *bytes[16..36].as_array().unwrap();
     demand(is_lawful_key(&key), head_fault(16))?;
     let edition = read_edition(bytes)?;
     let flags = read_flags(bytes)?;
-    let language = item_at(bytes, 49);
+    let language = *bytes[49..51].as_array().unwrap();
     demand(is_lawful_language(&language), head_fault(49))?;
-    let second_language = item_at(bytes, 51);
+    let second_language = *bytes[51..53].as_array().unwrap();
     demand(is_lawful_second(&second_language), head_fault(51))?;
     Ok(HeadItems {
         carrier,

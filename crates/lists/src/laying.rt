@@ -1,5 +1,12 @@
-ghost use Rattle.std.specs.Prelude.{◌≡◌, ◌+◌, ◌≤◌, length, min};
+ghost use Rattle.std.specs.Prelude.{◌≡◌, ◌+◌, ◌≤◌, length, min, nat_le};
 ghost use Rattle.lists.specs.Laying.{laid, overlaid};
+
+/// Whether so many places from a place on lie before an end.
+pub fn lies_within(place: usize, count: usize, end: usize) -> bool
+    ensures { result ≡ nat_le (place + count) end }
+{
+    place <= end && count <= end - place
+}
 
 /// Lays as much of an item over the slice from a place on as there is room for, and tells the place
 /// behind it.

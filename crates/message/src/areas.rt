@@ -6,6 +6,7 @@ ghost use Rattle.refusal.specs.declared.causes.ItemCause.TheVariants.{Rectangle 
 ghost use Rattle.ticket.specs.Reading.{area_at, tested_at};
 
 use super::layout::{Layout, in_field};
+use super::start::EntryStart;
 use field::{Formatting, Rectangle};
 use refusal::{ItemCause, ItemFault, RecordFault, Site, demand};
 
@@ -31,11 +32,12 @@ impl<'m> Layout<'m> {
         Ok(size)
     }
 
-    /// The rectangle of a field that begins at a place.
-    pub(crate) fn rectangle_at(self, number: usize, place: usize) -> Result<Rectangle, RecordFault>
-        ensures value { seen area_of result ≡ area_at self.entry.message.now self.entry.end number place }
-        ensures inside { OnOk result (place + 8 ≤ self.entry.end) }
+    /// The rectangle of a field.
+    pub(crate) fn rectangle_at(self, start: EntryStart) -> Result<Rectangle, RecordFault>
+        ensures value { seen area_of result ≡ area_at self.entry.message.now self.entry.end start.number start.place }
+        ensures inside { OnOk result (start.place + 8 ≤ self.entry.end) }
     {
+        let EntryStart { number, place, .. } = start;
         let line = self.number_at(in_field(number, place), 2)?;
         let column = self.number_at(in_field(number, place + 2), 2)?;
         let height = self.size_at(in_field(number, place + 4), line, 15)?;

@@ -6,25 +6,28 @@ ghost use Rattle.ticket.specs.Reading.{field_at, fields_at};
 
 use super::items::{FieldItems, FieldsTotal};
 use super::layout::{Layout, in_field};
+use super::start::EntryStart;
 use refusal::{SheetCause, SheetFault, demand};
 use text_code::ReadingCode;
 
 impl<'m> Layout<'m> {
-    // number and place stay two parameters: a caller counts the one, and is told the other by the field before
-    /// A field that begins at a place of the layout: its items, where there is room for so many bytes of its text.
+    /// A field of the layout: its items, where there is room for its text.
     fn field_at<C: ReadingCode>(
         self,
         code: &C,
-        room: usize,
-        number: usize,
-        place: usize,
+        start: EntryStart,
     ) -> Result<FieldItems<'m>, SheetFault>
-        ensures value { seen shape_of result ≡ seen (shape_at place) (field_at (C.ReadingCode.spells code.now) self.entry.message.now self.entry.end room number place) }
+        ensures value { seen shape_of result ≡ seen (shape_at start.place) (field_at (C.ReadingCode.spells code.now) self.entry.message.now self.entry.end start.room start.number start.place) }
         ensures inside { IfOk result (λ x. x.text.place + length x.text.bytes.now ≤ self.entry.end) }
-        ensures room { IfOk result (λ x. length x.text.bytes.now ≤ room) }
+        ensures room { IfOk result (λ x. length x.text.bytes.now ≤ start.room) }
         ensures part { IfOk result (λ x. StandsIn self.entry.message x.text) }
     {
-        let rectangle = self.rectangle_at(number, place)?;
+        let EntryStart {
+            number,
+            place,
+            room,
+        } = start;
+        let rectangle = self.rectangle_at(start)?;
         let formatting = self.formatting_at(in_field(number, place + 8))?;
         let length_site = in_field(number, place + 9);
         let text_length = self.number_at(length_site, 4)?;
@@ -41,6 +44,7 @@ impl<'m> Layout<'m> {
         })
     }
 
+    // code and room stay two parameters: a caller lends the one, and tells the other for each reading
     /// So many fields of the layout, the first of which begins at place 73: the place behind them, and how many bytes
     /// their texts have together.
     pub(crate) fn total_fields<C: ReadingCode>(
@@ -52,14 +56,15 @@ impl<'m> Layout<'m> {
         ensures value { result ≡ seen (behind 73 0) (fields_at (C.ReadingCode.spells code.now) self.entry.message.now self.entry.end room count 0 73) }
         ensures room { IfOk result (λ x. x.bytes ≤ room) }
     {
-        let mut place = 73;
-        let mut bytes = 0;
-        for number in 0..count {
-            let field = self.field_at(code, room - bytes, number, place)?;
-            place = field.text.end();
-            bytes += field.text.bytes.len();
+        let mut start = EntryStart::of_fields(room);
+        for _ in 0..count {
+            let field = self.field_at(code, start)?;
+            start = start.behind(field.text);
         }
-        Ok(FieldsTotal { place, bytes })
+        Ok(FieldsTotal {
+            place: start.place,
+            bytes: room - start.room,
+        })
     }
 
     /// The field with a number, where it stands in the layout behind those before it.
@@ -73,25 +78,28 @@ impl<'m> Layout<'m> {
         ensures part { IfOk result (λ x. StandsIn self.entry.message x.text) }
     {
         let before = self.total_fields(code, room, number)?;
-        self.field_at(code, room - before.bytes, number, before.place)
+        let start = EntryStart {
+            number,
+            place: before.place,
+            room: room - before.bytes,
+        };
+        self.field_at(code, start)
     }
 }
 
-/// A field that begins at a place of the layout, whose body ends at another: its items, where there is room for so
-/// many bytes of its text. The field's number is told where it is refused.
+/// A field of the layout, whose body ends at a place: its items, where there is room for its text. The field's number
+/// is told where it is refused.
 pub fn read_field<'m, C: ReadingCode>(
     message: &'m [u8],
     code: &C,
     end: usize,
-    room: usize,
-    number: usize,
-    place: usize,
+    start: EntryStart,
 ) -> Result<FieldItems<'m>, SheetFault>
-    ensures value { seen shape_of result ≡ seen (shape_at place) (field_at (C.ReadingCode.spells code.now) message.now (min end (length message.now)) room number place) }
+    ensures value { seen shape_of result ≡ seen (shape_at start.place) (field_at (C.ReadingCode.spells code.now) message.now (min end (length message.now)) start.room start.number start.place) }
     ensures inside { IfOk result (λ x. x.text.place + length x.text.bytes.now ≤ min end (length message.now)) }
-    ensures room { IfOk result (λ x. length x.text.bytes.now ≤ room) }
+    ensures room { IfOk result (λ x. length x.text.bytes.now ≤ start.room) }
     ensures part { IfOk result (λ x. StandsIn message.entry x.text) }
 {
     let end = end.min(message.len());
-    Layout { message, end }.field_at(code, room, number, place)
+    Layout { message, end }.field_at(code, start)
 }

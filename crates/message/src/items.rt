@@ -18,6 +18,7 @@ pub struct CarriedItems<'m> {
 }
 
 /// The place behind some fields, and how many bytes their texts have together.
+// no start of a next field: told are the bytes that were counted, not what is left of a room
 #[derive(Clone, Copy)]
 pub(crate) struct FieldsTotal {
     pub(crate) place: usize,

@@ -4,6 +4,7 @@ ghost use Rattle.ticket.specs.Decoding.{forget};
 ghost use Rattle.ticket.specs.Reading.{in_body, in_field, number_at};
 
 use super::part::Part;
+use lists::lies_within;
 use octets::read_number;
 use refusal::{ItemCause, ItemFault, RecordCause, RecordFault, Site, demand};
 
@@ -19,6 +20,7 @@ pub(crate) fn in_field(number: usize, place: usize) -> Site
 }
 
 /// The layout of a message, whose body ends at a place.
+// the whole message and an end, not its front alone: what is handed out is a part of the message that was lent
 #[derive(Clone, Copy)]
 pub(crate) struct Layout<'m> {
     pub(crate) message: &'m [u8],
@@ -27,13 +29,14 @@ pub(crate) struct Layout<'m> {
 }
 
 impl<'m> Layout<'m> {
+    // the clauses `inside` and `part` tell of two values in one fact, which no invariant of one can state
     /// An item of the layout, which ends no later than the layout's body.
     pub(crate) fn part_at(self, site: Site, width: usize) -> Result<Part<'m>, RecordFault>
         ensures value { forget result ≡ in_body self.entry.end site width }
         ensures inside { OnOk result (site.place + width ≤ self.entry.end) }
         ensures part { IfOk result (StandsAt self.entry.message site.place width) }
     {
-        let inside = site.place <= self.end && width <= self.end - site.place;
+        let inside = lies_within(site.place, width, self.end);
         demand(inside, RecordFault::Own(RecordCause::WrongLength, site))?;
         Ok(Part::of(self.message, site.place, width))
     }

@@ -10,6 +10,7 @@ mod items;
 mod layout;
 mod part;
 mod reading;
+mod start;
 mod texts;
 
 pub use carried::read_carried;
@@ -19,3 +20,4 @@ pub use handing_out::field_text;
 pub use items::{CarriedItems, FieldItems};
 pub use part::Part;
 pub use reading::read_message;
+pub use start::EntryStart;

@@ -18,7 +18,7 @@ fn print_contents(rt: &HostRuntime, contents: &Contents) -> io::Result<()> {
     println!(rt; "ok fields {fields} text {texts} carried {carried} bodies {bodies}")
 }
 
-/// All five figures; a refusal's own line has three of them.
+// a line of this program alone too: all five figures, of which a refusal's own line has three
 fn print_refusal(rt: &HostRuntime, refusal: Refusal) -> io::Result<()> {
     let Refusal {
         number,
@@ -41,16 +41,18 @@ fn print_reading<C: ReadingCode>(
         Err(fault) => return print_refusal(rt, Refusal::from(fault)),
     };
     print_contents(rt, &contents)?;
-    let Some(parts) = Parts::read(rt.alloc(), message, code, &contents)? else {
-        return println!(rt; "pass two disagrees");
-    };
-    if !writes_back(rt.alloc(), message, &contents, &parts)? {
+    let parts = Parts::read(rt.alloc(), message, code, &contents)?;
+    let parts = parts.as_ref();
+    if !parts.is_some_and(|parts| parts.agree(message, &contents)) {
+        println!(rt; "pass two disagrees")?;
+    }
+    if !writes_back(rt.alloc(), message, &contents, parts)? {
         println!(rt; "written otherwise")?;
     }
     Ok(())
 }
 
-/// What reading the case's message answers, and a line more where reading it part by part does not agree, or where it
+/// What reading the case's message answers, and a line more where reading it part by part does not agree, and where it
 /// is written otherwise from its parts.
 pub(crate) fn print_answer(rt: &HostRuntime, case: &Case) -> io::Result<()> {
     let message = case.message.as_slice();

@@ -1,4 +1,4 @@
-use message::{CarriedItems, Contents, FieldItems, read_carried, read_field};
+use message::{CarriedItems, Contents, EntryStart, FieldItems, read_carried, read_field};
 use std::alloc::{AllocError, Global};
 use text_code::ReadingCode;
 
@@ -9,57 +9,47 @@ pub(crate) struct Parts<'m> {
     pub(crate) carried: Vec<CarriedItems<'m>>,
 }
 
-/// The fields, where they fill the layout and have the text bytes that were counted.
+// a walk of its own for each kind of part: a field is read with a code and an end, a record without;
+// heap, message and contents are handed on as `main` has them
+/// The fields, or none where one is refused.
 fn read_fields<'m, C: ReadingCode>(
     heap: Global,
     message: &'m [u8],
     code: &C,
     contents: &Contents,
 ) -> Result<Option<Vec<FieldItems<'m>>>, AllocError> {
-    // by number and place: one field's reader is told both, and ends where the next begins
     let mut fields = Vec::new(heap);
-    let mut place = 73;
-    let mut room = contents.needs.texts;
-    for number in 0..contents.needs.fields {
-        let Ok(field) = read_field(message, code, contents.layout_end, room, number, place) else {
+    let mut start = EntryStart::of_fields(contents.needs.texts);
+    for _ in 0..contents.needs.fields {
+        let Ok(field) = read_field(message, code, contents.layout_end, start) else {
             return Ok(None);
         };
-        place = field.text.end();
-        room -= field.text.bytes.len();
+        start = start.behind(field.text);
         fields.push(field)?;
-    }
-    if place != contents.layout_end || room != 0 {
-        return Ok(None);
     }
     Ok(Some(fields))
 }
 
-/// The carried records, where they fill the rest of the message and have the bytes that were counted.
+/// The carried records, or none where one is refused.
 fn read_records<'m>(
     heap: Global,
     message: &'m [u8],
     contents: &Contents,
 ) -> Result<Option<Vec<CarriedItems<'m>>>, AllocError> {
     let mut records = Vec::new(heap);
-    let mut place = contents.layout_end;
-    let mut room = contents.needs.bodies;
-    for number in 2..contents.needs.carried.saturating_add(2) {
-        let Ok(record) = read_carried(message, room, number, place) else {
+    let mut start = EntryStart::of_carried(contents.layout_end, contents.needs.bodies);
+    for _ in 0..contents.needs.carried {
+        let Ok(record) = read_carried(message, start) else {
             return Ok(None);
         };
-        place = record.body.end();
-        room -= record.body.bytes.len();
+        start = start.behind(record.body);
         records.push(record)?;
-    }
-    if place != message.len() || room != 0 {
-        return Ok(None);
     }
     Ok(Some(records))
 }
 
 impl<'m> Parts<'m> {
-    /// The parts of a message, or none where reading part by part does not agree with what reading the whole message
-    /// told.
+    /// The parts of a message, or none where one is refused.
     pub(crate) fn read<C: ReadingCode>(
         heap: Global,
         message: &'m [u8],
@@ -73,5 +63,22 @@ impl<'m> Parts<'m> {
             return Ok(None);
         };
         Ok(Some(Parts { fields, carried }))
+    }
+
+    /// Whether the fields fill the layout and the carried records the rest of the message, and both have the bytes
+    /// that were counted.
+    pub(crate) fn agree(&self, message: &[u8], contents: &Contents) -> bool {
+        let fields_end = self.fields.iter().fold(
+            EntryStart::of_fields(contents.needs.texts),
+            |start, field| start.behind(field.text),
+        );
+        let carried_end = self.carried.iter().fold(
+            EntryStart::of_carried(contents.layout_end, contents.needs.bodies),
+            |start, record| start.behind(record.body),
+        );
+        fields_end.place == contents.layout_end
+            && fields_end.room == 0
+            && carried_end.place == message.len()
+            && carried_end.room == 0
     }
 }

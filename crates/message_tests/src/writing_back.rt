@@ -1,5 +1,5 @@
 use super::parts::Parts;
-use message::{CarriedItems, Contents, FieldItems};
+use message::Contents;
 use message_writer::{lay_carried, lay_field, lay_layout_start, message_length};
 use std::alloc::{AllocError, Global};
 use ticket::Room;
@@ -18,45 +18,32 @@ fn lay_start(buffer: &mut [u8], contents: &Contents) -> Option<usize> {
     place.checked_add(size)
 }
 
-/// Lays the fields from a place on, and tells the place behind them.
-fn lay_fields(buffer: &mut [u8], start: usize, fields: &[FieldItems<'_>]) -> Option<usize> {
-    let mut place = start;
-    for field in fields {
-        let text = field.text.bytes;
-        let size = lay_field(buffer, place, field.rectangle, field.formatting, text).ok()?;
-        place = place.checked_add(size)?;
-    }
-    Some(place)
-}
-
-/// Lays the carried records from a place on, and tells the place behind them.
-fn lay_records(buffer: &mut [u8], start: usize, records: &[CarriedItems<'_>]) -> Option<usize> {
-    let mut place = start;
-    for record in records {
-        let body = record.body.bytes;
-        let size = lay_carried(buffer, place, &record.id, &record.version, body).ok()?;
-        place = place.checked_add(size)?;
-    }
-    Some(place)
-}
-
 /// Lays every part of a message behind the one before, and tells the place behind the last.
 fn lay_message(buffer: &mut [u8], contents: &Contents, parts: &Parts<'_>) -> Option<usize> {
     let fields_place = lay_start(buffer, contents)?;
-    let layout_end = lay_fields(buffer, fields_place, &parts.fields)?;
-    lay_records(buffer, layout_end, &parts.carried)
+    let layout_end = parts.fields.iter().try_fold(fields_place, |place, field| {
+        let text = field.text.bytes;
+        let size = lay_field(buffer, place, field.rectangle, field.formatting, text).ok()?;
+        place.checked_add(size)
+    })?;
+    parts.carried.iter().try_fold(layout_end, |place, record| {
+        let body = record.body.bytes;
+        let size = lay_carried(buffer, place, &record.id, &record.version, body).ok()?;
+        place.checked_add(size)
+    })
 }
 
-/// Whether a message, written again from the parts that are read of it, has the same bytes.
+/// Whether a message, written again from the parts that are read of it, has the same bytes; it has not where a part is
+/// refused.
 pub(crate) fn writes_back(
     heap: Global,
     message: &[u8],
     contents: &Contents,
-    parts: &Parts<'_>,
+    parts: Option<&Parts<'_>>,
 ) -> Result<bool, AllocError> {
     let size = message_length(contents.needs);
     let mut buffer = vec![in heap; 0; size]?;
-    match lay_message(buffer.as_mut_slice(), contents, parts) {
+    match parts.and_then(|parts| lay_message(buffer.as_mut_slice(), contents, parts)) {
         Some(end) => Ok(end == size && buffer.as_slice() == message),
         None => Ok(false),
     }

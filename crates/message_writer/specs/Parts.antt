@@ -1,5 +1,6 @@
 -- The parts of a ticket message that stand behind its head, each as the items that it is laid of.
 use Rattle.std.specs.Prelude.{◌≡◌, ℕ, List, [], ◌∷◌, ◌++◌, length, codes, Option}
+use Rattle.std.specs.List.{flat_map}
 use Rattle.octets.specs.Digits.{digits}
 use Rattle.field.specs.Areas.{Area}
 use Rattle.field.specs.Fields.{Field}
@@ -7,8 +8,7 @@ use Rattle.ticket.specs.Tickets.{field_bytes, fields_bytes, layout_body, record_
 
 -- items one behind another
 abbrev pub joined : List (List ℕ) → List ℕ
-joined [] = []
-joined (item ∷ items) = item ++ joined items
+joined items = flat_map (λ item. item) items
 
 -- id, version and the length of the body, then the standard and the number of fields
 abbrev pub start_items : ℕ → ℕ → List (List ℕ)

@@ -3,6 +3,7 @@ ghost use Rattle.record.specs.Start.{in_record};
 ghost use Rattle.refusal.specs.declared.faults.SheetFault.TheVariants.{Own};
 ghost use Rattle.message_writer.specs.Layings.{counted, within};
 
+use lists::lies_within;
 use refusal::{SheetCause, SheetFault, Site, demand};
 
 fn fault_of(cause: SheetCause) -> SheetFault
@@ -24,6 +25,6 @@ pub(crate) fn check_within(buffer: &[u8], place: usize, size: usize) -> Result<(
     ensures value { result ≡ within buffer.now place size }
     ensures bound { OnOk result (place + size ≤ length buffer.now) }
 {
-    let inside = place <= buffer.len() && size <= buffer.len() - place;
+    let inside = lies_within(place, size, buffer.len());
     demand(inside, fault_of(SheetCause::BufferTooShort))
 }

@@ -3,6 +3,7 @@ ghost use Rattle.message_writer.specs.Messages.{LengthOfMessage, PartsAreMessage
 
 use ticket::Room;
 
+// the largest number, no Option: it can't fail, and no lawful ticket is so long
 /// The length of the message of a ticket that needs so much room. It is `usize::MAX` where it would be larger; no
 /// lawful ticket is so long.
 pub fn message_length(needs: Room) -> usize

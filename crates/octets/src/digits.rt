@@ -7,12 +7,10 @@ use refusal::ItemFault;
 fn read_digit(byte: u8, fault: ItemFault) -> Result<u32, ItemFault>
     ensures { result ≡ digit_value fault byte }
 {
-    match byte {
-        b'0'..=b'9' => Ok((byte - b'0') as u32),
-        _ => Err(fault),
-    }
+    (byte as char).to_digit(10).ok_or(fault)
 }
 
+// no `parse` here and no `format` below: the library's take a sign, and fill no slice of a width
 /// The number that at most nine digits write, or the given fault.
 pub fn read_number(item: &[u8], fault: ItemFault) -> Result<u32, ItemFault>
     ensures value { result ≡ numeral fault item.now }

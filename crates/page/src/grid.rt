@@ -62,6 +62,10 @@ impl<M: CellMemory> Grid<M> {
     }
 }
 
+// a `new` for each of the two makes: they are lent different memories
+// 0 by 0 and no Option: the rules of pages give what does not fit a page of that size
+// lines and columns are two numbers, as a caller has them: a `Size` is what a page answers
+
 impl<'a> Grid<PackedCells<'a>> {
     ghost use Rattle.page.specs.Grids.{AllBlank};
 

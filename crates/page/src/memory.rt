@@ -25,7 +25,7 @@ pub(crate) trait CellMemory {
         ensures room { room self.new ≡ room self.old };
 }
 
-// functions of this file, and no From: a word stands for a cell in a packed memory alone
+// no From: a cell that is not lawful has no word
 fn pack(cell: Cell) -> u32
     requires { lawful_cell cell ≡ true }
     ensures { result ≡ packed cell }

@@ -15,6 +15,7 @@ pub struct OffsetPage<P> {
 }
 
 impl<P: Page> OffsetPage<P> {
+    // lines and columns are two numbers, as a caller has them: a `Size` is what a page answers, and this is a shift
     /// Lays a page over `below`, shifted by so many lines and columns.
     pub fn new(below: P, lines: usize, columns: usize) -> OffsetPage<P>
         ensures below { result.below ≡ below }

@@ -28,6 +28,7 @@ fn keeps_lawful<P: Page>(page: &mut P) -> bool {
     }) && shows(page, 0, 0, Cell::blank())
 }
 
+// a test for each make, since what a page is lent has to live beside it
 #[test]
 fn packed_limits(rt: HostRuntime) {
     let mut words = [0; 4];

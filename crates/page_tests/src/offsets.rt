@@ -65,6 +65,7 @@ fn planar_shifts(rt: HostRuntime) {
     }
 }
 
+// the memories stand in each test again, since what a page is lent has to live beside it
 #[test]
 fn packed_windows(rt: HostRuntime) {
     let mut words = [7; 1600];

@@ -13,11 +13,6 @@ pub(crate) fn shows<P: Page>(page: &P, line: usize, column: usize, cell: Cell) -
     page.cell(line, column) == Some(cell)
 }
 
-/// Places ink in a cell, and tells whether the page took it.
-fn takes_ink<P: Page>(page: &mut P, line: usize, column: usize) -> bool {
-    page.place(line, column, INK) == Ok(())
-}
-
 fn count_in_line<P: Page>(page: &P, line: usize, columns: usize, cell: Cell) -> usize {
     (0..columns)
         .filter(|column| shows(page, line, *column, cell))
@@ -57,7 +52,7 @@ pub(crate) fn is_made<P: Page>(page: &mut P, made: Size) -> bool {
     let corners = [(0, 0), (0, right), (bottom, 0), (bottom, right)];
     is_blank(page, made)
         && corners.into_iter().all(|(line, column)| {
-            takes_ink(page, line, column) == some && shows(page, line, column, INK) == some
+            page.place(line, column, INK).is_ok() == some && shows(page, line, column, INK) == some
         })
 }
 
@@ -65,8 +60,11 @@ pub(crate) fn is_made<P: Page>(page: &mut P, made: Size) -> bool {
 /// shows that and nothing else.
 pub(crate) fn takes_a_frame<P: Page>(page: &mut P) -> bool {
     is_blank(page, size(15, 72))
-        && (0..72).all(|column| takes_ink(page, 0, column) && takes_ink(page, 14, column))
-        && (0..15).all(|line| takes_ink(page, line, 0) && takes_ink(page, line, 71))
+        && (0..72).all(|column| {
+            page.place(0, column, INK) == Ok(()) && page.place(14, column, INK) == Ok(())
+        })
+        && (0..15).all(|line| page.place(line, 0, INK) == Ok(())
+            && page.place(line, 71, INK) == Ok(()))
         && count(page, size(15, 72), INK) == 170
         && count(page, size(15, 72), Cell::blank()) == 910
         && page.size() == size(15, 72)

@@ -52,6 +52,7 @@ fn planar_makes<F: Fn(&mut PlanarPage, Size) -> bool>(holds: F) -> bool
     })
 }
 
+// a test for each make, so that a failure names the make
 #[test]
 fn packed_sizes(rt: HostRuntime) {
     assert!(rt; packed_makes(|page, made| is_blank(page, made)));
@@ -72,6 +73,7 @@ fn planar_corners(rt: HostRuntime) {
     assert!(rt; planar_makes(|page, made| is_made(page, made)));
 }
 
+// a test for each make, since its memories live beside the page, and one of them gets shorter in between
 #[test]
 fn packed_largest(rt: HostRuntime) -> Result<(), Fail> {
     let mut words = vec![in rt.alloc(); u32::MAX; 1_000_000]?;
@@ -106,6 +108,7 @@ fn planar_memory_one_short(rt: HostRuntime) {
     assert!(rt; narrow.size() == size(0, 0) && low.size() == size(0, 0));
 }
 
+// a test for each make, since what a page is lent has to live beside it
 #[test]
 fn packed_frame(rt: HostRuntime) {
     let mut words = [7; 1080];

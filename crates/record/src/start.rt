@@ -3,11 +3,12 @@ ghost use Rattle.refusal.specs.Chain.{then};
 ghost use Rattle.octets.specs.Bytes.{part};
 ghost use Rattle.record.specs.Start.{body_length, lawful_id, lawful_length, lawful_version, whole};
 
+use lists::lies_within;
 use octets::{all_within, read_number};
 use refusal::{ItemCause, ItemFault, RecordCause, RecordFault, Site, demand};
 
 /// The three kinds of record, by their ids.
-#[derive(Clone, Copy, PartialEq, Eq, Debug)]
+#[derive(Clone, Copy)]
 pub enum RecordKind {
     Head,
     Layout,
@@ -49,19 +50,18 @@ impl RecordKind {
 fn bytes_left(message: &[u8], site: Site, width: usize) -> Result<(), RecordFault>
     ensures { result ≡ whole message.now site width }
 {
-    let left = site.place <= message.len() && width <= message.len() - site.place;
+    let left = lies_within(site.place, width, message.len());
     demand(left, RecordFault::Own(RecordCause::TooFewBytes, site))
 }
 
-/// The item at a site, as many bytes as the array has places.
+/// The item at a site, as many bytes as the array has places, or refusal 1 where fewer are left.
 fn item_at<const WIDTH: usize>(message: &[u8], site: Site) -> Result<[u8; WIDTH], RecordFault>
     ensures value { result ≡ then (whole message.now site WIDTH) (λ _. Ok (part message.now site.place WIDTH)) }
     ensures room { OnOk result (site.place + WIDTH ≤ length message.now) }
 {
     bytes_left(message, site, WIDTH)?;
-    let mut item = [0; WIDTH];
-    item.copy_from_slice(&message[site.place..site.place + WIDTH]);
-    Ok(item)
+    let item = &message[site.place..site.place + WIDTH];
+    Ok(*item.as_array().unwrap())
 }
 
 /// The length of the body of a record that begins at a place, where its first twelve bytes are

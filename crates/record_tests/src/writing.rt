@@ -22,8 +22,14 @@ fn sample() -> HeadItems {
     }
 }
 
+fn sample_head() -> Result<Head, Fail> {
+    Head::try_from(sample()).map_err(|_| Fail::new("the sample is lawful"))
+}
+
 fn refusal_of(items: HeadItems) -> Option<Refusal> {
-    Head::new(items).err().map(|fault| Refusal::from(fault))
+    Head::try_from(items)
+        .err()
+        .map(|fault| Refusal::from(fault))
 }
 
 const UNLAWFUL: Option<Refusal> = Some(Refusal {
@@ -64,9 +70,7 @@ fn refuses_items_that_a_clerk_got_wrong(rt: HostRuntime) {
 
 #[test]
 fn writes_the_sample_and_leaves_the_rest(rt: HostRuntime) -> Result<(), Fail> {
-    let Ok(head) = Head::new(sample()) else {
-        return Err(Fail::new("the sample is lawful"));
-    };
+    let head = sample_head()?;
     let mut buffer = [b'#'; 56];
     assert_eq!(rt; head.write(&mut buffer), Ok(53));
     assert!(rt; buffer == *b"U_HEAD0100419997       32507828119662005200812310de  ###");
@@ -75,9 +79,7 @@ fn writes_the_sample_and_leaves_the_rest(rt: HostRuntime) -> Result<(), Fail> {
 
 #[test]
 fn a_short_buffer_stays_as_it_was(rt: HostRuntime) -> Result<(), Fail> {
-    let Ok(head) = Head::new(sample()) else {
-        return Err(Fail::new("the sample is lawful"));
-    };
+    let head = sample_head()?;
     let mut buffer = [b'#'; 52];
     let refusal = head
         .write(&mut buffer)

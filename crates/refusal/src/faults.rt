@@ -6,6 +6,7 @@ use super::causes::{ItemCause, RecordCause, SheetCause};
 
 /// Where a fault lies, each counted from 0 and 0 where it does not apply: the record in the message
 /// (the head is 0), the field in the layout, and the byte in the message.
+// zeros, no Option: three of the five figures of a refusal, as they are told
 #[derive(Clone, Copy, PartialEq, Eq, Debug)]
 pub struct Site {
     pub record: usize,

@@ -5,6 +5,7 @@ use super::faults::{ItemFault, RecordFault, SheetFault, Site};
 use std::fmt;
 
 /// The five figures of a refusal.
+// numbers and zeros, as the five figures of a refusal are told
 #[derive(Clone, Copy, PartialEq, Eq, Debug)]
 pub struct Refusal {
     pub number: u8,

@@ -9,15 +9,6 @@ use Rattle.sequence.specs.Parts.{part, spliced, without, moved, removed, raised}
 use Rattle.sequence.specs.Answers.{range_answer, view_answer}
 use Rattle.sequence.specs.Pieces.{joined, place_of, piece_at, Lies}
 
-pub joined-append : {X : Type 0} (ps qs : List (List X)) → joined (ps ++ qs) ≡ joined ps ++ joined qs
-joined-append ps qs = flat_map-append (λ p. p) ps qs
-
-pub joined_one : {X : Type 0} (p : List X) → joined (p ∷ []) ≡ p
-joined_one p = append-nil p
-
-pub length-joined : {X : Type 0} (ps : List (List X)) → length (joined ps) ≡ sum_by length ps
-length-joined ps = length-flat_map (λ p. p) ps
-
 -- a list that is a front, a part and a tail
 spliced_at : {X : Type 0} (a b c others : List X) (place count : ℕ) → length a ≡ place → length b ≡ count → spliced place count others (a ++ (b ++ c)) ≡ a ++ (others ++ c)
 spliced_at a b c others place count m k =
@@ -30,7 +21,7 @@ part_at a b c place count m k = ap (take count) (drop_at a (b ++ c) place m) ∙
 -- the pieces before the one at n, that one, and those behind it
 pub pieces_split : {X : Type 0} (ps : List (List X)) (n : ℕ) → n < length ps → joined ps ≡ joined (take n ps) ++ (piece_at n ps ++ joined (drop (n + 1) ps))
 pieces_split ps n l =
-    ap joined (sym (take-append-drop n ps)) ∙ joined-append (take n ps) (drop n ps) ∙ ap (λ s. joined (take n ps) ++ joined s) (drop_more ps n [] l)
+    ap joined (sym (take-append-drop n ps)) ∙ flat_map-append (λ p. p) (take n ps) (drop n ps) ∙ ap (λ s. joined (take n ps) ++ joined s) (drop_more ps n [] l)
 
 pub lies_split : {X : Type 0} (ps : List (List X)) (n : ℕ) (h : List X) (place count : ℕ) → Lies ps n h place count → h ≡ joined (take n ps) ++ (piece_at n ps ++ joined (drop (n + 1) ps))
 lies_split ps n h place count l = sym l.whole ∙ pieces_split ps n l.there
@@ -40,38 +31,38 @@ lies_within ps n h place count l =
     let a = joined (take n ps) in
     let b = piece_at n ps in
     let c = joined (drop (n + 1) ps) in
-    omega (arith, ap length (lies_split ps n h place count l), length-append a (b ++ c), length-append b c, length-joined (take n ps), l.begins, l.long)
+    omega (arith, ap length (lies_split ps n h place count l), length-append a (b ++ c), length-append b c, length-flat_map (λ p. p) (take n ps), l.begins, l.long)
 
 pub pieces_spliced : {X : Type 0} (ps : List (List X)) (n : ℕ) (h : List X) (place count : ℕ) (others : List X) → Lies ps n h place count → spliced place count others h ≡ joined (set ps n others)
 pieces_spliced ps n h place count others l =
     ap (spliced place count others) (lies_split ps n h place count l)
-    ∙ spliced_at (joined (take n ps)) (piece_at n ps) (joined (drop (n + 1) ps)) others place count (length-joined (take n ps) ∙ sym l.begins) (sym l.long)
+    ∙ spliced_at (joined (take n ps)) (piece_at n ps) (joined (drop (n + 1) ps)) others place count (length-flat_map (λ p. p) (take n ps) ∙ sym l.begins) (sym l.long)
     ∙ ap (λ k. joined (take n ps) ++ (others ++ joined (drop k ps))) (add-one n)
-    ∙ sym (joined-append (take n ps) (others ∷ drop (suc n) ps))
+    ∙ sym (flat_map-append (λ p. p) (take n ps) (others ∷ drop (suc n) ps))
     ∙ ap joined (sym (set_split ps n others l.there))
 
 pub pieces_without : {X : Type 0} (ps : List (List X)) (n : ℕ) (h : List X) (place count : ℕ) → Lies ps n h place count → without place count h ≡ joined (removed n ps)
 pieces_without ps n h place count l =
     ap (without place count) (lies_split ps n h place count l)
-    ∙ spliced_at (joined (take n ps)) (piece_at n ps) (joined (drop (n + 1) ps)) [] place count (length-joined (take n ps) ∙ sym l.begins) (sym l.long)
-    ∙ sym (joined-append (take n ps) (drop (n + 1) ps))
+    ∙ spliced_at (joined (take n ps)) (piece_at n ps) (joined (drop (n + 1) ps)) [] place count (length-flat_map (λ p. p) (take n ps) ∙ sym l.begins) (sym l.long)
+    ∙ sym (flat_map-append (λ p. p) (take n ps) (drop (n + 1) ps))
 
 pub pieces_part : {X : Type 0} (ps : List (List X)) (n : ℕ) (h : List X) (place count : ℕ) → Lies ps n h place count → part place count h ≡ piece_at n ps
 pieces_part ps n h place count l =
     ap (part place count) (lies_split ps n h place count l)
-    ∙ part_at (joined (take n ps)) (piece_at n ps) (joined (drop (n + 1) ps)) place count (length-joined (take n ps) ∙ sym l.begins) (sym l.long)
+    ∙ part_at (joined (take n ps)) (piece_at n ps) (joined (drop (n + 1) ps)) place count (length-flat_map (λ p. p) (take n ps) ∙ sym l.begins) (sym l.long)
 
 pub pieces_moved : {X : Type 0} (ps : List (List X)) (n : ℕ) (h : List X) (place count : ℕ) → Lies ps n h place count → moved place count h ≡ joined (raised n ps)
 pieces_moved ps n h place count l =
     ap (λ s. s ++ part place count h) (pieces_without ps n h place count l)
-    ∙ ap (λ s. joined (removed n ps) ++ s) (pieces_part ps n h place count l ∙ sym (joined_one (piece_at n ps)) ∙ ap (λ s. joined (take 1 s)) (sym (drop_more ps n [] l.there)))
-    ∙ sym (joined-append (removed n ps) (part n 1 ps))
+    ∙ ap (λ s. joined (removed n ps) ++ s) (pieces_part ps n h place count l ∙ sym (append-nil (piece_at n ps)) ∙ ap (λ s. joined (take 1 s)) (sym (drop_more ps n [] l.there)))
+    ∙ sym (flat_map-append (λ p. p) (removed n ps) (part n 1 ps))
 
 pub pieces_added : {X : Type 0} (ps : List (List X)) (h : List X) (place : ℕ) (count : ℕ) (others : List X) → joined ps ≡ h → place ≡ length h → spliced place count others h ≡ joined (ps ++ others ∷ [])
 pieces_added ps h place count others e p =
     ap (λ s. s ++ (others ++ drop (place + count) h)) (take_all place h (omega arith) ∙ sym e)
     ∙ ap (λ s. joined ps ++ (others ++ s)) (drop_all (place + count) h (omega arith))
-    ∙ sym (joined-append ps (others ∷ []))
+    ∙ sym (flat_map-append (λ p. p) ps (others ∷ []))
 
 -- a range where a piece lies is not refused
 pub lies_told : {X : Type 0} (ps : List (List X)) (n : ℕ) (h : List X) (place count : ℕ) → Lies ps n h place count → range_answer place count (length h) ≡ Ok tt
@@ -98,7 +89,7 @@ lies_added ps h after place count p whole at e long =
     record {
       there = omega (arith, length_push ps p);
       whole = sym e;
-      begins = at ∙ ap length (sym whole) ∙ length-joined ps ∙ ap (sum_by length) (sym (take_at ps (p ∷ []) (length ps) refl));
+      begins = at ∙ ap length (sym whole) ∙ length-flat_map (λ p. p) ps ∙ ap (sum_by length) (sym (take_at ps (p ∷ []) (length ps) refl));
       long = long ∙ ap length (sym (get_or_push ps p [] (length ps) refl));
     }
 

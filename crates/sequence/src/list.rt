@@ -1,7 +1,8 @@
 ghost use Rattle.std.specs.Prelude.{◌≤◌, length};
 
 use super::error::SequenceError;
-use super::moving::{lies_within, move_behind};
+use super::moving::move_behind;
+use lists::lies_within;
 
 /// Entries in order, over lent memory.
 // a slice and a count, no Vec: the caller lends the memory, and there is no heap
@@ -15,7 +16,7 @@ pub struct Sequence<'a, T> {
 /// Byte strings laid end to end, over lent memory.
 pub type ByteStore<'a> = Sequence<'a, u8>;
 
-// A range is told by place and count, since a caller's place + count may not fit a usize.
+// place and count are two numbers, no Range: their sum may not fit a usize, and a struct would be made at each call
 // `room` and `refused` stand at each call: they compare two values, which no invariant of one can.
 impl<'a, T: Copy> Sequence<'a, T> {
     ghost use Rattle.std.specs.Prelude.{◌≡◌, ℕ, ◌+◌, min, List, [], ◌∷◌, ◌++◌, Some, OnOk, OnErr, slice_get, slice_set};

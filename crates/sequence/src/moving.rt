@@ -1,12 +1,5 @@
-ghost use Rattle.std.specs.Prelude.{◌≡◌, ◌+◌, ◌≤◌, ◌++◌, length, take, drop, nat_le};
+ghost use Rattle.std.specs.Prelude.{◌≡◌, ◌+◌, ◌≤◌, ◌++◌, length, take, drop};
 ghost use Rattle.sequence.specs.Parts.{moved};
-
-/// Whether so many places from a place on lie before an end.
-pub(crate) fn lies_within(place: usize, count: usize, end: usize) -> bool
-    ensures { result ≡ nat_le (place + count) end }
-{
-    place <= end && count <= end - place
-}
 
 /// Moves so many entries from a place on behind the others that lie before an end.
 #[tactic(auto, using(crate::proofs::FrontLaws::turned_is))]

@@ -4,6 +4,8 @@
 #[cfg(test)]
 mod dice;
 #[cfg(test)]
+mod held;
+#[cfg(test)]
 mod list;
 #[cfg(test)]
 mod list_run;

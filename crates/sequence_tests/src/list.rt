@@ -1,13 +1,5 @@
+use super::held::check_held;
 use sequence::{Sequence, SequenceError};
-use std::process::Abort;
-
-fn check_held(rt: &impl Abort, list: &Sequence<'_, u16>, entries: &[u16]) {
-    assert_eq!(rt; list.len(), entries.len());
-    for (n, entry) in entries.iter().enumerate() {
-        assert_eq!(rt; list.get(n), Some(*entry));
-    }
-    assert_eq!(rt; list.get(entries.len()), None);
-}
 
 #[test]
 fn no_memory_holds_nothing(rt: HostRuntime) {

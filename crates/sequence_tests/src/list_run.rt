@@ -1,4 +1,5 @@
 use super::dice::{next, pick};
+use super::held::check_held;
 use sequence::{Sequence, SequenceError};
 use std::process::Abort;
 use std::test::Fail;
@@ -46,6 +47,7 @@ fn call(
     seed: u32,
 ) -> Result<(), Fail> {
     let n = pick(seed, 8) as usize;
+    // each range of the number drawn is one call, with its weight
     match pick(seed, 16) {
         0..=5 => assert_eq!(rt; list.push(seed), push(model, list.capacity(), seed)?),
         6..=8 => assert_eq!(rt; list.replace(n, seed), replace(model, n, seed)),
@@ -61,14 +63,6 @@ fn call(
     Ok(())
 }
 
-fn check_same(rt: &impl Abort, list: &Sequence<'_, u32>, model: &Vec<u32>) {
-    assert_eq!(rt; list.len(), model.len());
-    for (n, entry) in model.iter().enumerate() {
-        assert_eq!(rt; list.get(n), Some(*entry));
-    }
-    assert_eq!(rt; list.get(model.len()), None);
-}
-
 #[test]
 fn as_a_vector_would(rt: HostRuntime) -> Result<(), Fail> {
     let mut items = [0; 12];
@@ -78,7 +72,7 @@ fn as_a_vector_would(rt: HostRuntime) -> Result<(), Fail> {
     for _ in 0..600 {
         seed = next(seed);
         call(&rt, &mut list, &mut model, seed)?;
-        check_same(&rt, &list, &model);
+        check_held(&rt, &list, &model);
     }
     Ok(())
 }

@@ -1,20 +1,5 @@
+use super::held::check_held;
 use sequence::{ByteStore, SequenceError};
-use std::process::Abort;
-
-// Whether a range can be viewed and holds these bytes.
-pub(crate) fn shows(store: &ByteStore<'_>, place: usize, count: usize, bytes: &[u8]) -> bool {
-    store.view(place, count).is_some_and(|part| part == bytes)
-}
-
-fn shows_none(store: &ByteStore<'_>, place: usize, count: usize) -> bool {
-    store.view(place, count).is_none()
-}
-
-fn check_held(rt: &impl Abort, store: &ByteStore<'_>, bytes: &[u8]) {
-    assert_eq!(rt; store.len(), bytes.len());
-    assert!(rt; shows(store, 0, bytes.len(), bytes));
-    assert!(rt; shows_none(store, bytes.len(), 1));
-}
 
 // Puts bytes in the place of a range, as a caller does: room first, then the bytes.
 fn put(
@@ -83,7 +68,7 @@ fn a_full_store_keeps_its_order(rt: HostRuntime) {
     assert_eq!(rt; store.take_out(1, 4), Ok(()));
     check_held(&rt, &store, b"aone");
     assert_eq!(rt; store.take_out(2, 3), Err(SequenceError::OutOfRange));
-    assert!(rt; shows(&store, 1, 2, b"on"));
+    assert_eq!(rt; store.view(1, 2), Some(&b"on"[..]));
 }
 
 #[test]
@@ -91,8 +76,8 @@ fn a_range_past_every_number_is_refused(rt: HostRuntime) {
     let mut bytes = [0; 4];
     let mut store = ByteStore::new(&mut bytes, 4);
     assert_eq!(rt; put(&mut store, 0, 0, b"abc"), Ok(()));
-    assert!(rt; shows_none(&store, 1, usize::MAX));
-    assert!(rt; shows_none(&store, usize::MAX, 1));
+    assert_eq!(rt; store.view(1, usize::MAX), None);
+    assert_eq!(rt; store.view(usize::MAX, 1), None);
     assert_eq!(rt;
         store.take_out(2, usize::MAX),
         Err(SequenceError::OutOfRange)

@@ -1,151 +1,123 @@
 use super::dice::{next, pick};
-use super::store::shows;
+use super::held::check_held;
 use sequence::{ByteStore, SequenceError};
 use std::alloc::Global;
 use std::process::Abort;
 use std::test::Fail;
 
-// A vector with bytes in the place of a range.
-fn spliced(
+// The bytes before a range, in it and behind it, or what a store answers that does not hold it.
+fn parts(bytes: &[u8], place: usize, count: usize) -> Result<(&[u8], &[u8], &[u8]), SequenceError> {
+    let (front, rest) = bytes
+        .split_at_checked(place)
+        .ok_or(SequenceError::OutOfRange)?;
+    let (part, tail) = rest
+        .split_at_checked(count)
+        .ok_or(SequenceError::OutOfRange)?;
+    Ok((front, part, tail))
+}
+
+// A vector of three parts, one behind another.
+fn joined(heap: Global, front: &[u8], part: &[u8], tail: &[u8]) -> Result<Vec<u8>, Fail> {
+    let mut whole = Vec::new(heap);
+    whole.extend_from_slice(front)?;
+    whole.extend_from_slice(part)?;
+    whole.extend_from_slice(tail)?;
+    Ok(whole)
+}
+
+// A store, and a vector that is to hold the same.
+#[derive(Drop)]
+struct Pair<'a> {
     heap: Global,
-    model: &[u8],
-    place: usize,
-    old_count: usize,
-    bytes: &[u8],
-) -> Result<Vec<u8>, Fail> {
-    let mut after = Vec::new(heap);
-    for (i, byte) in model.iter().enumerate() {
-        if i == place {
-            after.extend_from_slice(bytes)?;
-        }
-        if i < place || i - place >= old_count {
-            after.push(*byte)?;
-        }
-    }
-    if place == model.len() {
-        after.extend_from_slice(bytes)?;
-    }
-    Ok(after)
+    store: ByteStore<'a>,
+    model: Vec<u8>,
 }
 
-// Whether a range lies within the vector, told as a store would.
-fn check_range(model: &[u8], place: usize, count: usize) -> Result<(), SequenceError> {
-    match model.len().checked_sub(place) {
-        Some(behind) if count <= behind => Ok(()),
-        _ => Err(SequenceError::OutOfRange),
+impl<'a> Pair<'a> {
+    // Whether so many bytes have room in the place of others.
+    fn check_room(&self, old_count: usize, new_count: usize) -> Result<(), SequenceError> {
+        let kept = self.model.len().saturating_sub(old_count);
+        if new_count <= self.store.capacity().saturating_sub(kept) {
+            Ok(())
+        } else {
+            Err(SequenceError::Full)
+        }
     }
-}
 
-// Whether so many bytes have room in the place of others.
-fn check_room(
-    model: &[u8],
-    capacity: usize,
-    old_count: usize,
-    new_count: usize,
-) -> Result<(), SequenceError> {
-    if new_count <= capacity.saturating_sub(model.len().saturating_sub(old_count)) {
+    // Room for some equal bytes in the place of a range, and then these bytes.
+    fn put(
+        &mut self,
+        rt: &impl Abort,
+        place: usize,
+        count: usize,
+        bytes: &[u8],
+    ) -> Result<(), Fail> {
+        let room = self.check_room(count, bytes.len());
+        let told = parts(&self.model, place, count).and_then(|parts| room.map(|_| parts));
+        assert_eq!(rt;
+            self.store.resize_range(place, count, bytes.len()),
+            told.map(|_| ())
+        );
+        if let Ok((front, _, tail)) = told {
+            assert_eq!(rt; self.store.write_at(place, bytes), Ok(()));
+            self.model = joined(self.heap, front, bytes, tail)?;
+        }
         Ok(())
-    } else {
-        Err(SequenceError::Full)
     }
-}
 
-// Room for some equal bytes in the place of a range, and then these bytes.
-fn put(
-    rt: &impl Abort,
-    heap: Global,
-    store: &mut ByteStore<'_>,
-    model: &[u8],
-    range: (usize, usize),
-    bytes: &[u8],
-) -> Result<Vec<u8>, Fail> {
-    let (place, count) = range;
-    let told = check_range(model, place, count).and_then(|_| check_room(
-        model,
-        store.capacity(),
-        count,
-        bytes.len(),
-    ));
-    assert_eq!(rt; store.resize_range(place, count, bytes.len()), told);
-    if told.is_err() {
-        return spliced(heap, model, 0, 0, b"");
+    fn take_out(&mut self, rt: &impl Abort, place: usize, count: usize) -> Result<(), Fail> {
+        let told = parts(&self.model, place, count);
+        assert_eq!(rt; self.store.take_out(place, count), told.map(|_| ()));
+        if let Ok((front, _, tail)) = told {
+            self.model = joined(self.heap, front, b"", tail)?;
+        }
+        Ok(())
     }
-    assert_eq!(rt; store.write_at(place, bytes), Ok(()));
-    spliced(heap, model, place, count, bytes)
-}
 
-fn take_out(
-    rt: &impl Abort,
-    heap: Global,
-    store: &mut ByteStore<'_>,
-    model: &[u8],
-    range: (usize, usize),
-) -> Result<Vec<u8>, Fail> {
-    let (place, count) = range;
-    let told = check_range(model, place, count);
-    assert_eq!(rt; store.take_out(place, count), told);
-    let count = if told.is_ok() { count } else { 0 };
-    spliced(heap, model, place, count, b"")
-}
-
-fn move_to_end(
-    rt: &impl Abort,
-    heap: Global,
-    store: &mut ByteStore<'_>,
-    model: &[u8],
-    range: (usize, usize),
-) -> Result<Vec<u8>, Fail> {
-    let (place, count) = range;
-    let told = check_range(model, place, count);
-    assert_eq!(rt; store.move_to_end(place, count), told);
-    if told.is_err() {
-        return spliced(heap, model, 0, 0, b"");
+    fn move_to_end(&mut self, rt: &impl Abort, place: usize, count: usize) -> Result<(), Fail> {
+        let told = parts(&self.model, place, count);
+        assert_eq!(rt; self.store.move_to_end(place, count), told.map(|_| ()));
+        if let Ok((front, part, tail)) = told {
+            self.model = joined(self.heap, front, tail, part)?;
+        }
+        Ok(())
     }
-    let mut after = spliced(heap, model, place, count, b"")?;
-    for byte in model.iter().skip(place).take(count) {
-        after.push(*byte)?;
-    }
-    Ok(after)
-}
 
-fn call(
-    rt: &impl Abort,
-    heap: Global,
-    store: &mut ByteStore<'_>,
-    model: &[u8],
-    seed: u32,
-) -> Result<Vec<u8>, Fail> {
-    let range = (pick(seed, 8) as usize, (pick(seed, 12) / 2) as usize);
-    let bytes = [pick(seed, 4), pick(seed, 5), pick(seed, 6), pick(seed, 7)];
-    match pick(seed, 16) {
-        0..=3 => put(rt, heap, store, model, (model.len(), 0), &bytes),
-        4..=6 => put(rt, heap, store, model, range, &bytes),
-        7..=9 => put(rt, heap, store, model, range, &bytes[0..1]),
-        10..=12 => move_to_end(rt, heap, store, model, range),
-        13..=14 => take_out(rt, heap, store, model, range),
-        _ => {
-            store.clear();
-            Ok(Vec::new(heap))
+    fn call(&mut self, rt: &impl Abort, seed: u32) -> Result<(), Fail> {
+        let place = pick(seed, 8) as usize;
+        let count = (pick(seed, 12) / 2) as usize;
+        let bytes = [pick(seed, 4), pick(seed, 5), pick(seed, 6), pick(seed, 7)];
+        let end = self.model.len();
+        // each range of the number drawn is one call, with its weight
+        match pick(seed, 16) {
+            0..=3 => self.put(rt, end, 0, &bytes),
+            4..=6 => self.put(rt, place, count, &bytes),
+            7..=9 => self.put(rt, place, count, &bytes[0..1]),
+            10..=12 => self.move_to_end(rt, place, count),
+            13..=14 => self.take_out(rt, place, count),
+            _ => {
+                self.store.clear();
+                self.model.clear();
+                Ok(())
+            }
         }
     }
-}
-
-fn check_same(rt: &impl Abort, store: &ByteStore<'_>, model: &[u8]) {
-    assert_eq!(rt; store.len(), model.len());
-    assert!(rt; shows(store, 0, model.len(), model));
 }
 
 #[test]
 fn as_a_vector_would(rt: HostRuntime) -> Result<(), Fail> {
     let heap = rt.alloc();
     let mut bytes = [0; 20];
-    let mut store = ByteStore::new(&mut bytes, 16);
-    let mut model: Vec<u8> = Vec::new(heap);
+    let mut pair = Pair {
+        heap,
+        store: ByteStore::new(&mut bytes, 16),
+        model: Vec::new(heap),
+    };
     let mut seed = 2026;
     for _ in 0..600 {
         seed = next(seed);
-        model = call(&rt, heap, &mut store, &model, seed)?;
-        check_same(&rt, &store, &model);
+        pair.call(&rt, seed)?;
+        check_held(&rt, &pair.store, &pair.model);
     }
     Ok(())
 }

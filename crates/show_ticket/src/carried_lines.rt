@@ -1,9 +1,9 @@
 use super::failure::Failure;
 use super::one_line::one_line;
-use message::{CarriedItems, Contents, read_carried};
+use message::{CarriedItems, Contents, EntryStart, read_carried};
 use std::io;
 
-// as a field's line, no Display
+// a line of this program alone, so no Display of the library's type
 fn print_carried(rt: &HostRuntime, carried: &CarriedItems) -> io::Result<()> {
     let id = one_line(rt.alloc(), &carried.id)?;
     let version = one_line(rt.alloc(), &carried.version)?;
@@ -17,14 +17,11 @@ pub(crate) fn print_carried_records(
     message: &[u8],
     contents: &Contents,
 ) -> Result<(), Failure> {
-    // by number and place, as the fields
-    let mut place = contents.layout_end;
-    let mut room = contents.needs.bodies;
-    for number in 2..contents.needs.carried.saturating_add(2) {
-        let carried = read_carried(message, room, number, place)?;
+    let mut start = EntryStart::of_carried(contents.layout_end, contents.needs.bodies);
+    for _ in 0..contents.needs.carried {
+        let carried = read_carried(message, start)?;
         print_carried(rt, &carried)?;
-        place = carried.body.end();
-        room -= carried.body.bytes.len();
+        start = start.behind(carried.body);
     }
     Ok(())
 }

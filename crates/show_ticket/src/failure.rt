@@ -1,4 +1,4 @@
-use refusal::SheetFault;
+use refusal::{Refusal, SheetFault};
 use std::io;
 
 /// Why printing a ticket stopped: the message is refused, or the output is.
@@ -17,5 +17,15 @@ impl From<SheetFault> for Failure {
 impl From<io::Error> for Failure {
     fn from(error: io::Error) -> Failure {
         Failure::Output(error)
+    }
+}
+
+impl Failure {
+    /// Prints a refusal on a line of its own; a failure of the output is passed on.
+    pub(crate) fn print(self, rt: &HostRuntime) -> io::Result<()> {
+        match self {
+            Failure::Refused(fault) => rt.println(Refusal::from(fault)),
+            Failure::Output(error) => Err(error),
+        }
     }
 }

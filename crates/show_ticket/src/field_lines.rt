@@ -1,7 +1,7 @@
 use super::failure::Failure;
 use super::one_line::one_line;
 use field::Rectangle;
-use message::{Contents, FieldItems, read_field};
+use message::{Contents, EntryStart, FieldItems, read_field};
 use std::io;
 use text_code::Utf8;
 
@@ -20,20 +20,18 @@ fn print_field(rt: &HostRuntime, field: &FieldItems) -> io::Result<()> {
     )
 }
 
+// a walk of its own for each kind of part: a field is read with a code and an end, a record without
 /// The fields of a message that holds these contents, one to a line.
 pub(crate) fn print_fields(
     rt: &HostRuntime,
     message: &[u8],
     contents: &Contents,
 ) -> Result<(), Failure> {
-    // by number and place: one field's reader is told both, and ends where the next begins
-    let mut place = 73;
-    let mut room = contents.needs.texts;
-    for number in 0..contents.needs.fields {
-        let field = read_field(message, &Utf8, contents.layout_end, room, number, place)?;
+    let mut start = EntryStart::of_fields(contents.needs.texts);
+    for _ in 0..contents.needs.fields {
+        let field = read_field(message, &Utf8, contents.layout_end, start)?;
         print_field(rt, &field)?;
-        place = field.text.end();
-        room -= field.text.bytes.len();
+        start = start.behind(field.text);
     }
     Ok(())
 }

@@ -10,7 +10,6 @@ use carried_lines::print_carried_records;
 use failure::Failure;
 use field_lines::print_fields;
 use message::read_message;
-use refusal::Refusal;
 use show_parts::{HeadLines, read_front};
 use std::io;
 use text_code::Utf8;
@@ -21,15 +20,12 @@ fn print_ticket(rt: &HostRuntime, message: &[u8]) -> Result<(), Failure> {
     rt.println(HeadLines {
         items: contents.head.items(),
     })?;
-    print_fields(rt, message, &contents)?;
+    // the carried records follow where a field is refused
+    print_fields(rt, message, &contents).or_else(|failure| failure.print(rt))?;
     print_carried_records(rt, message, &contents)
 }
 
 fn main(rt: HostRuntime) -> io::Result<()> {
     let message = read_front(rt.alloc(), rt.stdin())?;
-    match print_ticket(&rt, &message) {
-        Ok(()) => Ok(()),
-        Err(Failure::Refused(fault)) => rt.println(Refusal::from(fault)),
-        Err(Failure::Output(error)) => Err(error),
-    }
+    print_ticket(&rt, &message).or_else(|failure| failure.print(&rt))
 }

@@ -1,5 +1,5 @@
 -- Texts in any code, from its spellings f: put together, read further, and taken apart.
-use Rattle.std.proofs.Common.{◌≡◌, ℕ, ◌+◌, ◌-◌, ◌≤◌, List, [], ◌∷◌, ◌++◌, length, take, drop, Some, None, Option, sym, refl, ap, ◌∙◌, subst, arith, take-add}
+use Rattle.std.proofs.Common.{◌≡◌, ℕ, ◌+◌, ◌-◌, ◌≤◌, List, [], ◌∷◌, ◌++◌, length, take, drop, Some, None, Option, sym, refl, ap, ◌∙◌, subst, arith}
 use Rattle.std.proofs.lemmas.List.{append_assoc, append-nil, length-drop, length-take-le, take_rest}
 use Rattle.text_code.specs.declared.codes.Decoded.{Decoded}
 use Rattle.text_code.specs.Reading.{Front}
@@ -33,11 +33,6 @@ spelled-append f (c ∷ cs) ds xs ys s t =
 
 pub spelled_one : (f : ℕ → Option (List ℕ)) (c : ℕ) (s : List ℕ) → f c ≡ Some s → Spelled f (c ∷ []) s
 spelled_one f c s e = subst (Spelled f (c ∷ [])) (append-nil s) (spelled_cons f c [] s [] e refl)
-
--- a character read at a place goes behind the characters before it
-pub read_more : (f : ℕ → Option (List ℕ)) (cs bytes : List ℕ) (at n k : ℕ) → Spelled f cs (take at bytes) → Begins f n k (drop at bytes) → Spelled f (cs ++ n ∷ []) (take (at + k) bytes)
-read_more f cs bytes at n k s b =
-    subst (Spelled f (cs ++ n ∷ [])) (sym (take-add at k bytes)) (spelled-append f cs (n ∷ []) (take at bytes) (take k (drop at bytes)) s (spelled_one f n (take k (drop at bytes)) b.spells))
 
 pub read_within : (f : ℕ → Option (List ℕ)) (bytes : List ℕ) (at n k : ℕ) → at ≤ length bytes → Begins f n k (drop at bytes) → at + k ≤ length bytes
 read_within f bytes at n k h b = omega (arith, b.within, length-drop at bytes)

@@ -1,5 +1,5 @@
 -- Spellings laid one after another over a buffer.
-use Rattle.std.proofs.Common.{◌≡◌, ℕ, min, ◌+◌, ◌-◌, ◌<◌, ◌≤◌, true, List, [], ◌∷◌, ◌++◌, length, get_or, drop, Some, None, Ok, Err, Option, Result, sym, refl, ap, ◌∙◌, subst, arith, rules}
+use Rattle.std.proofs.Common.{◌≡◌, ℕ, min, ◌+◌, ◌<◌, ◌≤◌, true, List, [], ◌∷◌, ◌++◌, length, get_or, drop, Some, None, Ok, Err, Option, Result, sym, refl, ap, ◌∙◌, subst, arith, rules}
 use Rattle.std.proofs.lemmas.List.{drop_all, drop_more, length-append}
 use Rattle.std.specs.List.{AllByRecursion}
 use Rattle.std.specs.Option.{IsSome, option_map}
@@ -27,9 +27,9 @@ pub record LeftToLay (f : ℕ → Option (List ℕ)) (cs was : List ℕ) (place 
 lay_start : (f : ℕ → Option (List ℕ)) (cs was bytes : List ℕ) (place : ℕ) → Spelled f cs bytes → place + length bytes ≤ length was → LeftToLay f cs was place was 0 place
 lay_start f cs was bytes place s h = record { whole = bytes; spelled = s; fits = h; left = bytes; ahead = s; ends = refl; completes = refl }
 
-pub lay_measured : (f : ℕ → Option (List ℕ)) (cs was : List ℕ) (place n : ℕ) (r : Result ℕ CharacterFault) → Measured f Any cs r → Some n ≡ result_ok r → place ≤ length was → n ≤ length was - place → LeftToLay f cs was place was 0 place
-lay_measured f cs was place n (Ok m) (bytes, text, long) some h fits = let e : n ≡ m = cc in lay_start f cs was bytes place text.spelled (omega (arith, e, long))
-lay_measured f cs was place n (Err fault) m some h fits = let z : ◌≡◌ {A = ℕ} 0 1 = cc in absurd (omega arith)
+pub lay_measured : (f : ℕ → Option (List ℕ)) (cs was : List ℕ) (place n : ℕ) (r : Result ℕ CharacterFault) → Measured f Any cs r → Some n ≡ result_ok r → place + n ≤ length was → LeftToLay f cs was place was 0 place
+lay_measured f cs was place n (Ok m) (bytes, text, long) some fits = let e : n ≡ m = cc in lay_start f cs was bytes place text.spelled (omega (arith, e, long))
+lay_measured f cs was place n (Err fault) m some fits = let z : ◌≡◌ {A = ℕ} 0 1 = cc in absurd (omega arith)
 
 -- the next character, and those behind it
 pub lay_next : (f : ℕ → Option (List ℕ)) (cs was now : List ℕ) (place i at : ℕ) → i < length cs → (l : LeftToLay f cs was place now i at) → Parted f (get_or cs i 0) (drop (i + 1) cs) l.left

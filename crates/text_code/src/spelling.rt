@@ -2,7 +2,8 @@ ghost use Rattle.std.specs.Prelude.{◌≡◌, ◌≤◌, ◌&&◌, leb, length 
 ghost use Rattle.std.specs.Option.{option_map};
 
 /// The 1 to 4 bytes of one character.
-// A buffer with a length: there is no heap, and a spelling outlives the bytes that it is made of.
+// A buffer with a length: a spelling outlives its bytes, there is no heap, and a kind of vector of four would be no
+// plainer.
 #[derive(Clone, Copy)]
 pub struct Spelling {
     bytes: [u8; 4],
@@ -26,7 +27,7 @@ impl Spelling {
     pub fn new(bytes: &[u8]) -> Option<Spelling>
         ensures holds { option_map (λ s. take s.length s.bytes) result ≡ (if leb 1 (len bytes.now) && nat_le (len bytes.now) 4 then Some bytes.now else None) }
     {
-        if bytes.len() < 1 || bytes.len() > 4 {
+        if !(1..=4).contains(&bytes.len()) {
             return None;
         }
         Some(Spelling {

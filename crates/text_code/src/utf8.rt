@@ -1,49 +1,39 @@
-ghost use Rattle.std.specs.Prelude.{◌≡◌, ◌+◌, ◌<◌, ◌≤◌, IfSome};
+ghost use Rattle.std.specs.Prelude.{◌≡◌, ◌+◌, ◌%◌, ◌<◌, ◌≤◌, ◌&&◌, IfSome, Some, None, false, if◌then◌else◌, nat_le};
+ghost use Rattle.std.specs.Range.{range_inclusive_start, range_inclusive_end, range_inclusive_exhausted};
 ghost use Rattle.text_code.specs.Codes.{continuation, four_bytes, three_bytes, two_bytes, utf8};
-ghost use Rattle.text_code.specs.Utf8Forms.{bits_at, long_at, form_at, least_second, greatest_second};
+ghost use Rattle.text_code.specs.Utf8Forms.{long_at, form_at, least_second, greatest_second};
 ghost use borrow.Author.Rules.{rules};
 
 use super::codes::{Decoded, ReadingCode, WritingCode};
 use super::spelling::Spelling;
+use std::ops::RangeInclusive;
 
 /// UTF-8 as in RFC 3629: the shortest form, no surrogates, nothing above 10FFFF.
 #[derive(Clone, Copy, PartialEq, Eq, Debug)]
 pub struct Utf8;
 
-/// The least second byte behind a first: a lower one would begin a longer form than needed.
-fn least_second(first: u8) -> u8
-    ensures { result ≡ least_second first }
+/// The second bytes that may stand behind a first: a lower one would begin a longer form than needed, a higher one a
+/// surrogate or a number above 10FFFF.
+fn second_range(first: u8) -> RangeInclusive<u8>
+    ensures least { range_inclusive_start result ≡ least_second first }
+    ensures greatest { range_inclusive_end result ≡ greatest_second first }
+    ensures whole { range_inclusive_exhausted result ≡ false }
 {
     match first {
-        0xE0 => 0xA0,
-        0xF0 => 0x90,
-        _ => 0x80,
+        0xE0 => 0xA0..=0xBF,
+        0xED => 0x80..=0x9F,
+        0xF0 => 0x90..=0xBF,
+        0xF4 => 0x80..=0x8F,
+        _ => 0x80..=0xBF,
     }
 }
 
-/// The greatest second byte behind a first: a higher one would begin a surrogate or a number above 10FFFF.
-fn greatest_second(first: u8) -> u8
-    ensures { result ≡ greatest_second first }
-{
-    match first {
-        0xED => 0x9F,
-        0xF4 => 0x8F,
-        _ => 0xBF,
-    }
-}
-
-/// The last six bits of the byte at a place, if it is there and lies between two.
-#[tactic(auto, unfolding(crate::specs::Utf8Forms::bits_at))]
-fn bits_at(bytes: &[u8], place: usize, low: u8, high: u8) -> Option<u32>
-    ensures value { result ≡ bits_at bytes.now place low high }
+/// The last six bits of a byte that lies in a range.
+fn last_bits(byte: u8, range: RangeInclusive<u8>) -> Option<u32>
+    ensures value { range_inclusive_exhausted range ≡ false → result ≡ (if nat_le (range_inclusive_start range) byte && nat_le byte (range_inclusive_end range) then Some (byte % 64) else None) }
     ensures bound { IfSome result (λ bits. bits < 64) }
 {
-    let byte = *bytes.get(place)?;
-    if low <= byte && byte <= high {
-        Some((byte % 64) as u32)
-    } else {
-        None
-    }
+    range.contains(&byte).then_some((byte % 64) as u32)
 }
 
 /// The character of a form of N bytes: the bits of the first byte above its lead, then six of each that follows.
@@ -51,10 +41,10 @@ fn read_long<const N: usize>(bytes: &[u8], first: u8, lead: u8) -> Option<Decode
     requires { (2 ≤ N) × (N ≤ 4) × (lead ≤ first) × (first < lead + 32) }
     ensures { result ≡ long_at bytes.now first lead N }
 {
-    let second = bits_at(bytes, 1, least_second(first), greatest_second(first))?;
+    let second = last_bits(*bytes.get(1)?, second_range(first))?;
     let mut character = (first - lead) as u32 * 64 + second;
-    for place in 2..N {
-        character = character * 64 + bits_at(bytes, place, 0x80, 0xBF)?;
+    for byte in bytes.get(2..N)? {
+        character = character * 64 + last_bits(*byte, 0x80..=0xBF)?;
     }
     Some(Decoded {
         character,
@@ -108,7 +98,7 @@ fn continuation_byte(bits: u32) -> u8
     0x80 + (bits % 64) as u8
 }
 
-// Each form stands as RFC 3629 shows it: one loop for all three would be longer, and hide which bits go where.
+// Each form stands as RFC 3629 shows it: one loop, or the library's `encode_utf8`, would hide which bits go where.
 
 /// The form of numbers up to 7FF.
 fn two_bytes(character: u32) -> [u8; 2]

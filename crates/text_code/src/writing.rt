@@ -3,7 +3,7 @@ ghost use Rattle.text_code.specs.Writing.{Laid, Measured, OnlyMeasure, permitted
 
 use super::characters::{CharacterFault, Permitted};
 use super::codes::WritingCode;
-use lists::lay;
+use lists::{lay, lies_within};
 
 /// The number of bytes that spell a character, or none where it has no spelling or is not permitted.
 fn permitted_length<C: WritingCode>(code: &C, permitted: Permitted, character: u32) -> Option<usize>
@@ -45,7 +45,7 @@ pub fn lay_characters<C: WritingCode>(
     ensures laid { Laid (C.ReadingCode.spells code.now) characters.now buffer.old place buffer.new result }
 {
     let length = spelled_length(code, Permitted::Any, characters).ok()?;
-    if place > buffer.len() || length > buffer.len() - place {
+    if !lies_within(place, length, buffer.len()) {
         return None;
     }
     let mut at = place;

@@ -35,10 +35,7 @@ pub struct WithSign<S> {
 fn read_sign(sign: u32) -> Option<Decoded>
     ensures { result ≡ sign_read sign }
 {
-    if sign < 128 || sign > 1_114_111 {
-        return None;
-    }
-    Some(Decoded {
+    (128..=1_114_111).contains(&sign).then_some(Decoded {
         character: sign,
         length: 1,
     })

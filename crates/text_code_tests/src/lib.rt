@@ -43,13 +43,13 @@ mod tests {
         );
         assert!(rt; 1 + bytes.len() <= buffer.len());
         assert_eq!(rt; &buffer[1..1 + bytes.len()], bytes);
-        let mut at = 0;
+        let mut rest = bytes;
         for character in characters {
-            assert!(rt; at <= bytes.len());
-            let read = Utf8.read(&bytes[at..]).ok_or("malformed")?;
+            let read = Utf8.read(rest).ok_or("malformed")?;
             assert_eq!(rt; read.character, *character);
             assert!(rt; read.length <= 4);
-            at += read.length;
+            assert!(rt; read.length <= rest.len());
+            rest = &rest[read.length..];
         }
         Ok(())
     }
@@ -79,6 +79,7 @@ mod tests {
     }
 
     // The bytes of each character are its spelling, and no fewer of them are.
+    // The zeros are read too, as bytes that stand behind it.
     #[test]
     fn boundaries(rt: HostRuntime) -> Result<(), Fail> {
         let cases: [(u32, [u8; 4], usize); 13] = [

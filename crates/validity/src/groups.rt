@@ -12,13 +12,15 @@ pub(crate) enum Class {
     Other,
 }
 
-fn class_of(character: u32) -> Class
-    ensures { result ≡ class_of character }
-{
-    match character {
-        48..=57 => Class::Digit(character - 48),
-        32 => Class::Blank,
-        _ => Class::Other,
+impl From<u32> for Class {
+    ghost from_gives = { λ character class. class ≡ class_of character };
+
+    fn from(character: u32) -> Class {
+        match character {
+            48..=57 => Class::Digit(character - 48),
+            32 => Class::Blank,
+            _ => Class::Other,
+        }
     }
 }
 
@@ -32,7 +34,7 @@ pub(crate) fn listed_words<C: ReadingCode>(code: &C, bytes: &[u8]) -> Option<[u6
     while !rest.is_empty() {
         let decoded = code.read(rest)?;
         // the state and the class in one match, so that each turn of the state is one arm
-        match (digits, gap, class_of(decoded.character)) {
+        match (digits, gap, Class::from(decoded.character)) {
             (2, false, Class::Digit(digit)) => {
                 mark(&mut words, value * 10 + digit);
                 gap = true;

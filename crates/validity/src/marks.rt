@@ -38,6 +38,7 @@ fn listed_zones(words: [u64; 16]) -> Zones
     }
 }
 
+// no From: an impl is for everyone, and would make zones of words that no text lists
 /// The answer to the words that a text lists, plain where it lists none.
 pub(crate) fn zones_of_words(words: Option<[u64; 16]>) -> Zones
     ensures { result ≡ zones_of_words words }

@@ -5,6 +5,9 @@ use super::answer::Period;
 use calendar::{Date, Moment, Time};
 use octets::write_number;
 
+// date_at, time_at, moment_bytes and moment_of are functions, no TryFrom and no Display: the types are calendar's, so
+// this crate may give them no trait of the library, and the form is that of a ticket's text alone
+
 /// What two bytes write if they are digits.
 // not read_number: no digit is tested here, since the text as a whole is compared with what it should be
 fn two_at(text: &[u8; 19], at: usize) -> u8

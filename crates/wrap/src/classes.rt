@@ -12,6 +12,7 @@ pub enum CharacterClass {
     Ink,
 }
 
+// No `From`: the class is asked of a char with its two literals, and of a number by way of it.
 fn class_of_char(c: char) -> CharacterClass
     ensures { result ≡ class_of c }
 {

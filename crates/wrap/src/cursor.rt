@@ -1,5 +1,6 @@
 ghost use Rattle.std.specs.Prelude.{◌≡◌, ◌+◌, ◌<◌, ◌≤◌};
 
+// By place, and no iterator, as at `Characters`.
 /// A place of a source, with the row and the column that wrapping has reached there.
 #[derive(Clone, Copy)]
 pub(crate) struct Cursor {

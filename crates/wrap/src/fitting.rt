@@ -15,7 +15,8 @@ impl Word {
     }
 }
 
-// Height and width are two numbers: callers have them in a rectangle of their own, and ask about any two.
+// Height and width stay two numbers: `Rectangle` would ask for a place too, and a struct of their own would be taken
+// apart at each call.
 
 /// Whether a text fits a rectangle: no word is longer than the width, and none is printed on a row from the height on.
 pub fn fits_in<S: Characters>(source: &S, height: usize, width: usize) -> bool

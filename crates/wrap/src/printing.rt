@@ -29,6 +29,7 @@ impl Grid {
         }
     }
 
+    // line and column are two numbers here, as in `page`: a rectangle shifts each by itself
     /// What a cell shows, or nothing outside the area.
     pub fn cell(&self, line: usize, column: usize) -> Option<Cell>
         ensures answer { result ≡ on_grid self.now line column }
@@ -85,7 +86,7 @@ impl Grid {
             formatting: frame.formatting,
             ..Cell::blank()
         };
-        // by row: a rectangle's rows are parts of lines, and no slice of the cells
+        // by row and index: nothing is known of the cells behind `chunks_mut`
         for row in 0..frame.rectangle.height {
             let line = frame.rectangle.line + row;
             self.fill_line(line, frame.rectangle.column, frame.rectangle.width, blank);
@@ -97,6 +98,7 @@ impl Grid {
         ensures printed { (cs rest : List ℕ) → S.Characters.stands source.now word.start (cs ++ rest) → word.length ≡ length cs → Changed self.old self.new (paint (area_of frame.rectangle) frame.formatting (spread word.row word.column cs)) }
         ensures kept { Kept (area_of frame.rectangle) self.old self.new }
     {
+        // by place, and no iterator, as at `Characters`
         let mut place = word.start;
         for at in 0..word.length {
             let Some(decoded) = source.read_at(place) else {

@@ -1,11 +1,11 @@
-ghost use Rattle.std.specs.Prelude.{◌≡◌, ℕ, ◌-◌, ◌<◌, List, length as len, take, drop, IfSome};
+ghost use Rattle.std.specs.Prelude.{◌≡◌, ℕ, ◌-◌, ◌<◌, ◌≤◌, List, None, length as len, take, drop, IfSome};
 ghost use Rattle.text_code.specs.Reading.{Front};
 ghost use Rattle.wrap.specs.Sources.{ReadAs, Within, encoded_end, EncodedStands, numbers_end, NumbersStand};
 
 use text_code::{Decoded, ReadingCode};
 
 /// Characters that are read one after another, each at a place that the one before it tells.
-// By place, and no iterator: a word is read twice, to measure it and to print it.
+// By place, and no iterator: a word is read twice, and an iterator to copy would need `stands` and `end` all the same.
 pub trait Characters {
     // From a place to the end stand exactly these characters.
     ghost stands: { Self → ℕ → List ℕ → Type 0 };
@@ -31,13 +31,12 @@ pub struct Numbers<'a> {
     pub characters: &'a [u32],
 }
 
-/// What the code reads at a place inside the bytes.
-// By index, not `get`: a part of a text is lent as `&bytes[a..b]` wherever it goes on to be decoded.
+/// What the code reads at a place of the bytes, or nothing behind their end.
 fn decode_at<C: ReadingCode>(code: &C, bytes: &[u8], place: usize) -> Option<Decoded>
-    requires { place < len bytes.now }
-    ensures front { Front (C.ReadingCode.spells code.now) (take (len bytes.now - place) (drop place bytes.now)) result }
+    ensures front { place ≤ len bytes.now → Front (C.ReadingCode.spells code.now) (take (len bytes.now - place) (drop place bytes.now)) result }
+    ensures behind { len bytes.now < place → result ≡ None }
 {
-    code.read(&bytes[place..])
+    code.read(bytes.get(place..)?)
 }
 
 impl<'c, 'b, C: ReadingCode> Characters for Encoded<'c, 'b, C> {
@@ -46,11 +45,7 @@ impl<'c, 'b, C: ReadingCode> Characters for Encoded<'c, 'b, C> {
     ghost end = { λ s. encoded_end s.bytes.now };
 
     fn read_at(&self, place: usize) -> Option<Decoded> {
-        if place < self.bytes.len() {
-            decode_at(self.code, self.bytes, place)
-        } else {
-            None
-        }
+        decode_at(self.code, self.bytes, place)
     }
 }
 

@@ -8,6 +8,7 @@ use super::classes::{CharacterClass, class_of};
 use super::cursor::{Cursor, Step, Word};
 use super::sources::Characters;
 
+// By place, and no iterator, as at `Characters`.
 /// A run of ink: how many characters it has, and where it ends.
 #[derive(Clone, Copy)]
 struct Run {

@@ -1,9 +1,25 @@
 use field::Formatting;
+use page::Cell;
 use std::test::Fail;
 use text_code::{Latin1, Utf8};
 use wrap::{Encoded, Grid, Numbers, Rectangle};
 
-/// Whether cells from a line and a column on, in rows of a width, show the characters in a formatting. A dot is a blank.
+/// Whether cells of one line from a column on show the characters in a formatting. A dot is a blank.
+fn line_shows(grid: &Grid, line: usize, column: usize, formatting: u8, expected: &[u8]) -> bool {
+    (column..).zip(expected).all(|(column, byte)| {
+        let character = match *byte {
+            b'.' => 32,
+            other => other as u32,
+        };
+        grid.cell(line, column)
+            == Some(Cell {
+                character,
+                formatting,
+            })
+    })
+}
+
+/// Whether cells from a line and a column on, in rows of a width, show the characters in a formatting.
 fn shows(
     grid: &Grid,
     line: usize,
@@ -12,20 +28,10 @@ fn shows(
     formatting: u8,
     expected: &[u8],
 ) -> bool {
-    if width == 0 || line > 15 || column > 72 || expected.len() > 1080 {
-        return false;
-    }
-    for (i, byte) in expected.iter().enumerate() {
-        let character = match *byte {
-            b'.' => 32,
-            other => other as u32,
-        };
-        match grid.cell(line + i / width, column + i % width) {
-            Some(cell) if cell.character == character && cell.formatting == formatting => {}
-            _ => return false,
-        }
-    }
-    true
+    width > 0
+        && (line..).zip(expected.chunks(width)).all(|(line, row)| line_shows(
+            grid, line, column, formatting, row,
+        ))
 }
 
 /// How many cells have a formatting.

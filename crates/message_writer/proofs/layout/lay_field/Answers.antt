@@ -22,6 +22,3 @@ returns-clause-after c =
     let size = filled_more (p + 13) (digits 4 (length text)) formatting c.lay-6.ensures.after c.number_digits-6.ensures (omega (arith, length_digits 4 (length text))) (omega arith) in
     let all = filled_more (p + 13 + length text) text size c.lay-7.ensures.after refl refl (omega arith) in
     all.holds ∙ ap (laid was p) (join_field area c.args.formatting.value text)
-
-pub returns-clause-field : goal.returns-clause-field
-returns-clause-field c = bytes_of_field (area_of c.args.rectangle) c.args.formatting.value c.args.text.now

@@ -2,7 +2,7 @@ use Rattle.std.proofs.Common.{◌≡◌, ℕ, ◌^◌, ◌<◌, length, get_or, 
 use Rattle.std.proofs.lemmas.List.{at_drop_all}
 use Rattle.std.proofs.lemmas.Result.{err_from_is_err_and, IfOk-from_err}
 use Rattle.octets.specs.Digits.{numeral_from, numeral}
-use Rattle.octets.proofs.Numerals.{fits_more, below_more, read_ok, numeral_short, numeral_more, numeral_ends}
+use Rattle.octets.proofs.Numerals.{fits_more, read_ok, numeral_short, numeral_ends}
 use Rattle.octets.proofs.digits.read_number.Goals as goal
 
 pub returns-then-item-gt9 : goal.returns-then-item-gt9
@@ -17,13 +17,6 @@ pub overflow_add-value : goal.overflow_add-value
 overflow_add-value c =
     let m = fits_more c.loop-byte.value c.loop-byte.byte-index (length c.args.item.now) c.loop-byte.invariant.1 c.loop-byte-test.true c.if-item-gt9.false in
     let d = read_ok c.args.fault (get_or c.args.item.now c.loop-byte.byte-index 0) c.in_ok-value.field-0 c.in_ok-value.ensures in omega (arith, d.2)
-
-pub loop-byte-preserved : goal.loop-byte-preserved
-loop-byte-preserved c =
-    let d = read_ok c.args.fault (get_or c.args.item.now c.loop-byte.byte-index 0) c.in_ok-value.field-0 c.in_ok-value.ensures in (
-      numeral_more c.args.fault c.loop-byte.value c.in_ok-value.field-0 c.args.item.now c.loop-byte.byte-index c.loop-byte-test.true c.in_ok-value.ensures ∙ c.loop-byte.invariant.0,
-      below_more c.loop-byte.value c.loop-byte.byte-index c.in_ok-value.field-0 c.loop-byte.invariant.1 d.2,
-    )
 
 pub returns-in_err-value : goal.returns-in_err-value
 returns-in_err-value c =

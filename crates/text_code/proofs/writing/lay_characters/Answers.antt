@@ -1,4 +1,4 @@
-use Rattle.std.proofs.Common.{get_or, sym, ap, ◌∙◌}
+use Rattle.std.proofs.Common.{get_or, sym, ap, ◌∙◌, rules}
 use Rattle.std.specs.Option.{option_map}
 use Rattle.text_code.specs.Writing.{spelling_bytes}
 use Rattle.text_code.proofs.Decoding.{spelt}
@@ -11,7 +11,7 @@ returns-in_err-length g c =
 
 pub loop-character-init : goal.loop-character-init
 loop-character-init g c =
-    lay_measured (g.C.ReadingCode.spells c.args.code.now) c.args.characters.now c.args.buffer.now c.args.place c.in_ok-length.length c.spelled_length.result c.spelled_length.ensures.answer c.in_ok-length.ensures.value c.if-place-buffer.false c.if-length-buffer.false
+    lay_measured (g.C.ReadingCode.spells c.args.code.now) c.args.characters.now c.args.buffer.now c.args.place c.in_ok-length.length c.spelled_length.result c.spelled_length.ensures.answer c.in_ok-length.ensures.value (search rules)
 
 pub unwrap-spelling-requires : goal.unwrap-spelling-requires
 unwrap-spelling-requires g c =

@@ -20,18 +20,18 @@ returns-in_err-decoded g c =
 
 pub returns-in_default : goal.returns-in_default
 returns-in_default g c =
-    let u : fits c.loop-rest.gap c.class_of.result ≡ false = search rules in
-    none_unfit (g.C.ReadingCode.spells c.args.code.now) c.args.bytes.now c.loop-rest.rest.now c.loop-rest.digits c.loop-rest.value c.loop-rest.gap c.loop-rest.words c.in_ok-decoded.decoded (g.met.C.ReadingCode.short c.args.code.now) (g.met.C.ReadingCode.apart c.args.code.now) c.loop-rest.invariant c.in_ok-decoded.ensures.front c.class_of.result c.class_of.ensures u
+    let u : fits c.loop-rest.gap c.from.result ≡ false = search rules in
+    none_unfit (g.C.ReadingCode.spells c.args.code.now) c.args.bytes.now c.loop-rest.rest.now c.loop-rest.digits c.loop-rest.value c.loop-rest.gap c.loop-rest.words c.in_ok-decoded.decoded (g.met.C.ReadingCode.short c.args.code.now) (g.met.C.ReadingCode.apart c.args.code.now) c.loop-rest.invariant c.in_ok-decoded.ensures.front c.from.result c.from.ensures u
 
 pub returns-in_default-2 : goal.returns-in_default-2
 returns-in_default-2 g c =
-    let u : fits c.loop-rest.gap c.class_of.result ≡ false = search rules in
-    none_unfit (g.C.ReadingCode.spells c.args.code.now) c.args.bytes.now c.loop-rest.rest.now c.loop-rest.digits c.loop-rest.value c.loop-rest.gap c.loop-rest.words c.in_ok-decoded.decoded (g.met.C.ReadingCode.short c.args.code.now) (g.met.C.ReadingCode.apart c.args.code.now) c.loop-rest.invariant c.in_ok-decoded.ensures.front c.class_of.result c.class_of.ensures u
+    let u : fits c.loop-rest.gap c.from.result ≡ false = search rules in
+    none_unfit (g.C.ReadingCode.spells c.args.code.now) c.args.bytes.now c.loop-rest.rest.now c.loop-rest.digits c.loop-rest.value c.loop-rest.gap c.loop-rest.words c.in_ok-decoded.decoded (g.met.C.ReadingCode.short c.args.code.now) (g.met.C.ReadingCode.apart c.args.code.now) c.loop-rest.invariant c.in_ok-decoded.ensures.front c.from.result c.from.ensures u
 
 pub returns-in_default-3 : goal.returns-in_default-3
 returns-in_default-3 g c =
-    let u : fits c.loop-rest.gap c.class_of.result ≡ false = search rules in
-    none_unfit (g.C.ReadingCode.spells c.args.code.now) c.args.bytes.now c.loop-rest.rest.now c.loop-rest.digits c.loop-rest.value c.loop-rest.gap c.loop-rest.words c.in_ok-decoded.decoded (g.met.C.ReadingCode.short c.args.code.now) (g.met.C.ReadingCode.apart c.args.code.now) c.loop-rest.invariant c.in_ok-decoded.ensures.front c.class_of.result c.class_of.ensures u
+    let u : fits c.loop-rest.gap c.from.result ≡ false = search rules in
+    none_unfit (g.C.ReadingCode.spells c.args.code.now) c.args.bytes.now c.loop-rest.rest.now c.loop-rest.digits c.loop-rest.value c.loop-rest.gap c.loop-rest.words c.in_ok-decoded.decoded (g.met.C.ReadingCode.short c.args.code.now) (g.met.C.ReadingCode.apart c.args.code.now) c.loop-rest.invariant c.in_ok-decoded.ensures.front c.from.result c.from.ensures u
 
 pub loop-rest-smaller : goal.loop-rest-smaller
 loop-rest-smaller g c =

@@ -5,8 +5,8 @@ use Rattle.message.specs.Totals.{behind}
 use Rattle.ticket.specs.Reading.{fields_at}
 
 -- the fields that are left, behind those read, come to what all of them come to
-abbrev pub invariant-loop-number : goal.invariant-loop-number
-invariant-loop-number g l =
-    (seen (behind l.place l.bytes) (fields_at (g.C.ReadingCode.spells l.code) l.self.message.now l.self.end (l.room - l.bytes) (l.count - l.number) l.number l.place)
+abbrev pub invariant-loop : goal.invariant-loop
+invariant-loop g l =
+    (seen (behind l.start.place (l.room - l.start.room)) (fields_at (g.C.ReadingCode.spells l.code) l.self.message.now l.self.end l.start.room (l.count - l.counter) l.start.number l.start.place)
     ≡ seen (behind 73 0) (fields_at (g.C.ReadingCode.spells l.code) l.self.message.now l.self.end l.room l.count 0 73))
-    × (l.bytes ≤ l.room)
+    × ((l.start.number ≡ l.counter) × (l.start.room ≤ l.room))

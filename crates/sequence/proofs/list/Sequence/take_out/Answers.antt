@@ -3,12 +3,8 @@ use Rattle.std.proofs.lemmas.List.{length-take-le}
 use Rattle.sequence.specs.Held.{held}
 use Rattle.sequence.proofs.PartLaws.{length_moved}
 use Rattle.sequence.proofs.FrontLaws.{front_fewer}
-use Rattle.sequence.proofs.PieceLaws.{lies_told, pieces_without}
+use Rattle.sequence.proofs.PieceLaws.{pieces_without}
 use Rattle.sequence.proofs.list.Sequence.take_out.Goals as goal
-
-pub returns-in_err-move_to_end-clause-pieces : goal.returns-in_err-move_to_end-clause-pieces
-returns-in_err-move_to_end-clause-pieces g c = λ ps n l.
-    search (rules, lies_told ps n (held c.args.self.now) c.args.place c.args.count l)
 
 pub overflow_sub-self : goal.overflow_sub-self
 overflow_sub-self g c =
