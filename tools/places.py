@@ -53,7 +53,7 @@ def fields(pattern):
     """The fields of structs whose text has the pattern."""
     rows = []
     for file, text in TEXT.items():
-        for m in re.finditer(r"struct (\w+)[^;{]*\{\n(.*?)\n\}", text, re.S):
+        for m in re.finditer(r"^(?:pub(?:\([a-z]+\))? )?struct (\w+)[^;{]*\{\n(.*?)\n\}", text, re.S | re.M):
             rows += [f"{file} {m[1]}: {field.strip()}" for field in m[2].splitlines() if re.search(pattern, field)]
     return rows
 
