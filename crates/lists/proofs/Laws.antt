@@ -36,19 +36,29 @@ module _ {X : Type 0} where
   pub filled_none : (was : List X) (at : ℕ) → Filled was at [] at was
   filled_none was at = record { holds = sym (laid_nothing was at); ends = sym (add-zero at) }
 
-  pub filled_more : {was s now next laying : List X} {at p : ℕ} (q : ℕ) (item : List X) → Filled was at s p now → next ≡ overlaid now p laying → laying ≡ item → q ≡ p + length item → q ≤ length was → Filled was at (s ++ item) q next
-  filled_more {was} {s} {now} {next} {laying} {at} {p} q item f e same more room =
-      let l : length now ≡ length was = ap length f.holds ∙ length-laid was at s (omega (arith, f.ends)) in
-      let o : next ≡ laid now p item = e ∙ ap (overlaid now p) same ∙ overlaid_whole now item p (omega (arith, l)) in
+  pub filled_more : {was s now next : List X} {at p : ℕ} (q : ℕ) (item : List X) → Filled was at s p now → p ≤ length was → next ≡ laid now p item → q ≡ p + length item → Filled was at (s ++ item) q next
+  filled_more {was} {s} {now} {next} {at} {p} q item f h e more =
       record {
-        holds = o ∙ ap (λ x. laid x p item) f.holds ∙ ap (λ k. laid (laid was at s) k item) f.ends ∙ laid-laid was s item at (omega (arith, f.ends));
+        holds = e ∙ ap (λ x. laid x p item) f.holds ∙ ap (λ k. laid (laid was at s) k item) f.ends ∙ laid-laid was s item at (omega (arith, f.ends));
         ends = omega (arith, f.ends, length-append s item);
       }
+
+  -- one more item that was laid as far as there is room, and there is room for it
+  pub filled_overlaid : {was s now next laying : List X} {at p : ℕ} (q : ℕ) (item : List X) → Filled was at s p now → next ≡ overlaid now p laying → laying ≡ item → q ≡ p + length item → q ≤ length was → Filled was at (s ++ item) q next
+  filled_overlaid {was} {s} {now} {next} {laying} {at} {p} q item f e same more room =
+      let l : length now ≡ length was = ap length f.holds ∙ length-laid was at s (omega (arith, f.ends)) in
+      let o : next ≡ laid now p item = e ∙ ap (overlaid now p) same ∙ overlaid_whole now item p (omega (arith, l)) in
+      filled_more q item f (omega arith) o more
+
+  -- from the front on
+  pub filled_front : {was s now : List X} {p : ℕ} → Filled was 0 s p now → now ≡ s ++ drop p was
+  filled_front {was} {s} {now} {p} f =
+      let e : 0 + length s ≡ p = sym f.ends in f.holds ∙ ap (λ k. s ++ drop k was) e
 
   -- from the front to the end
   pub filled_whole : {was s now : List X} → Filled was 0 s (length was) now → now ≡ s
   filled_whole {was} {s} f =
-      f.holds ∙ ap (λ x. s ++ x) (drop_all (0 + length s) was (omega (arith, f.ends))) ∙ append-nil s
+      filled_front f ∙ ap (λ x. s ++ x) (drop_all (length was) was (omega arith)) ∙ append-nil s
 
   -- a part of a slice that was written
   pub put_mid-laid : (at k : ℕ) (was part s : List X) → part ≡ s → length s ≡ k → put_mid at k was part ≡ laid was at s

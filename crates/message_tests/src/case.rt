@@ -29,13 +29,25 @@ pub(crate) struct Case {
     pub(crate) message: Vec<u8>,
 }
 
+/// Whether each is a hexadecimal digit, none of them a capital.
+fn are_small_digits(digits: &[u8]) -> bool {
+    digits
+        .iter()
+        .all(|digit| matches!(digit, b'0'..=b'9' | b'a'..=b'f'))
+}
+
 /// The bytes of a message in hexadecimal of small letters, `-` for an empty one.
 fn parse_message(heap: Global, word: &str) -> anyhow::Result<Vec<u8>> {
     if word == "-" {
         return Ok(Vec::new(heap));
     }
-    if word.bytes().any(|byte| byte.is_ascii_uppercase()) {
+    // the whole pairs are looked at before the half one that may stand behind them
+    let digits = word.as_bytes();
+    if !are_small_digits(&digits[..digits.len() / 2 * 2]) {
         return Err(anyhow!("no hexadecimal digit"));
+    }
+    if digits.len() % 2 == 1 {
+        return Err(anyhow!("half a byte"));
     }
     Ok(hex::decode(heap, word)?)
 }

@@ -26,6 +26,10 @@ field_items area formatting text =
 abbrev pub field_bytes_of : Area → ℕ → List ℕ → List ℕ
 field_bytes_of area formatting text = joined (field_items area formatting text)
 
+-- id, version, the length of the body, and the body
+abbrev pub record_items : List ℕ → List ℕ → List ℕ → List (List ℕ)
+record_items id version body = id ∷ (version ∷ (digits 4 (length body) ∷ (body ∷ [])))
+
 -- with the fields behind it, it is the layout record of every list of so many fields whose layout has so many bytes
 abbrev pub StartsLayout : ℕ → ℕ → Type 0
 StartsLayout fields size =

@@ -4,6 +4,7 @@
 
 mod carried;
 mod checks;
+mod items;
 mod layout;
 mod length;
 

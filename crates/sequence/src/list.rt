@@ -19,7 +19,8 @@ pub type ByteStore<'a> = Sequence<'a, u8>;
 // place and count are two numbers, no Range: their sum may not fit a usize, and a struct would be made at each call
 // `room` and `refused` stand at each call: they compare two values, which no invariant of one can.
 impl<'a, T: Copy> Sequence<'a, T> {
-    ghost use Rattle.std.specs.Prelude.{◌≡◌, ℕ, ◌+◌, min, List, [], ◌∷◌, ◌++◌, Some, OnOk, OnErr, slice_get, slice_set};
+    ghost use Rattle.std.proofs.Math.Seq.{paste};
+    ghost use Rattle.std.specs.Prelude.{◌≡◌, ℕ, ◌+◌, ◌-◌, min, drop, List, [], ◌∷◌, ◌++◌, Some, OnOk, OnErr, slice_get, slice_set};
     ghost use Rattle.std.specs.Option.{option_map};
     ghost use Rattle.lists.specs.Laying.{laid};
     ghost use Rattle.sequence.specs.Parts.{spliced, without, moved, removed, raised};
@@ -121,8 +122,7 @@ impl<'a, T: Copy> Sequence<'a, T> {
         ensures piece { (ps : List (List T)) (n : ℕ) → Lies ps n (held self.now) place count
             → option_map (λ x. x.now) result ≡ Some (piece_at n ps) }
     {
-        let end = place.checked_add(count)?;
-        self.entries().get(place..end)
+        self.entries().get(place..)?.get(..count)
     }
 
     /// Makes room for so many entries in the place of a range; those behind it move.
@@ -149,13 +149,10 @@ impl<'a, T: Copy> Sequence<'a, T> {
         ensures refused { OnErr result (self.new ≡ self.old) }
     {
         self.check_range(place, old_count)?;
-        let rest = self.len - old_count;
-        if !lies_within(rest, new_count, self.items.len()) {
+        if !lies_within(self.len - old_count, new_count, self.items.len()) {
             return Err(SequenceError::Full);
         }
-        let tail = place + old_count..self.len;
-        self.items.copy_within(tail, place + new_count);
-        self.len = rest + new_count;
+        self.move_tail(place + old_count, place + new_count);
         Ok(())
     }
 
@@ -189,7 +186,9 @@ impl<'a, T: Copy> Sequence<'a, T> {
         Ok(())
     }
 
+    // a hint: a refusal costs no call
     /// Moves a range behind the other entries, where it lies within them.
+    #[inline(always)]
     pub fn move_to_end(&mut self, place: usize, count: usize) -> Result<(), SequenceError>
         ensures told { result ≡ range_answer place count (length (held self.old)) }
         ensures holds { OnOk result (held self.new ≡ moved place count (held self.old)) }
@@ -208,6 +207,20 @@ impl<'a, T: Copy> Sequence<'a, T> {
         ensures { result.now ≡ held self.now }
     {
         &self.items[..self.len]
+    }
+
+    /// Moves the entries from a place on to another place, and counts up to their new end.
+    fn move_tail(&mut self, from: usize, to: usize)
+        requires within { from ≤ self.old.len }
+        requires room { to + (self.old.len - from) ≤ room_for self.old }
+        ensures entries { self.new.items.now
+            ≡ paste self.old.items.now to (drop from self.old.items.now) (self.old.len - from) }
+        ensures len { self.new.len ≡ to + (self.old.len - from) }
+        ensures room { room_for self.new ≡ room_for self.old }
+    {
+        let count = self.len - from;
+        self.items.copy_within(from..self.len, to);
+        self.len = to + count;
     }
 
     /// Refuses a range that does not lie within the entries.

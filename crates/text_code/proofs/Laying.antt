@@ -48,7 +48,7 @@ lay_unwraps f cs was now place i at (Some s) h l e = search rules
 same_spelling : (f : ℕ → Option (List ℕ)) (c : ℕ) (s t : List ℕ) → f c ≡ Some s → f c ≡ Some t → s ≡ t
 same_spelling f c s t p q = cc
 
-lay_within : (f : ℕ → Option (List ℕ)) (cs was now s : List ℕ) (place i at : ℕ) → i < length cs → LeftToLay f cs was place now i at → f (get_or cs i 0) ≡ Some s → at + length s ≤ length was
+pub lay_within : (f : ℕ → Option (List ℕ)) (cs was now s : List ℕ) (place i at : ℕ) → i < length cs → LeftToLay f cs was place now i at → f (get_or cs i 0) ≡ Some s → at + length s ≤ length was
 lay_within f cs was now s place i at h l e =
     let p = lay_next f cs was now place i at h l in
     omega (arith, l.fits, l.ends, ap length p.joined ∙ length-append p.first p.others, ap length (same_spelling f (get_or cs i 0) s p.first e p.spells))

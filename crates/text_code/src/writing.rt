@@ -1,9 +1,9 @@
-ghost use Rattle.std.specs.Prelude.{◌≡◌};
+ghost use Rattle.std.specs.Prelude.{◌≡◌, ◌+◌, ◌≤◌, ◌++◌, length as len, take, drop};
 ghost use Rattle.text_code.specs.Writing.{Laid, Measured, OnlyMeasure, permitted_length};
 
 use super::characters::{CharacterFault, Permitted};
 use super::codes::WritingCode;
-use lists::{lay, lies_within};
+use lists::lies_within;
 
 /// The number of bytes that spell a character, or none where it has no spelling or is not permitted.
 fn permitted_length<C: WritingCode>(code: &C, permitted: Permitted, character: u32) -> Option<usize>
@@ -34,6 +34,18 @@ pub fn spelled_length<C: WritingCode>(
     Ok(length)
 }
 
+// not `lists::lay`, which looks how much there is room for: at each character that takes as long again
+/// Lays bytes, for which there is room, over the buffer from a place on and tells where they end.
+fn lay_within(buffer: &mut [u8], at: usize, bytes: &[u8]) -> usize
+    requires { at + len bytes.now ≤ len buffer.old }
+    ensures end { result ≡ at + len bytes.now }
+    ensures holds { buffer.new ≡ take at buffer.old ++ (bytes.now ++ drop (len bytes.now) (drop at buffer.old)) }
+{
+    let end = at + bytes.len();
+    buffer[at..end].copy_from_slice(bytes);
+    end
+}
+
 /// Lays the spelled characters over the buffer from a place on and tells where they end.
 /// Nothing is changed where one has no spelling or they do not fit.
 pub fn lay_characters<C: WritingCode>(
@@ -51,7 +63,7 @@ pub fn lay_characters<C: WritingCode>(
     let mut at = place;
     for character in characters {
         let spelling = code.spell(*character).unwrap();
-        at = lay(buffer, at, spelling.as_bytes());
+        at = lay_within(buffer, at, spelling.as_bytes());
     }
     Some(at)
 }

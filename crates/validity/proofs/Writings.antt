@@ -83,17 +83,38 @@ moment_same : (cs : List ℕ) (r : Option Moment) (d : Date) (t : Time) → cs �
 moment_same cs None d t e f = tt
 moment_same cs (Some m) d t e f = e ∙ ap₂ moment_text (sym f.0) (sym f.1)
 
+-- what is read of a text that a real moment writes is that moment
+moment_read : (cs : List ℕ) (d : Date) (t : Time) → d ≡ date_at cs → t ≡ time_at cs → (e : Date) (u : Time) → real_date e ≡ true → real_time u ≡ true → cs ≡ moment_text e u → (d ≡ e) × (t ≡ u)
+moment_read cs d t p q e u re ru x = (p ∙ ap date_at x ∙ date_back e u re, q ∙ ap time_at x ∙ time_back e u ru)
+
 pub moment_written : (cs : List ℕ) (r : Option Moment) (d : Date) (t : Time) → d ≡ date_at cs → t ≡ time_at cs → cs ≡ moment_text d t
     → is_some r ≡ (real_date d && real_time t) → IfSome r (λ m. (m.date ≡ d) × (m.time ≡ t)) → MomentOf cs r
 moment_written cs r d t p q w h f =
     record {
       told = λ e u re ru x.
-          let de : d ≡ e = p ∙ ap date_at x ∙ date_back e u re in
-          let tu : t ≡ u = q ∙ ap time_at x ∙ time_back e u ru in
-          let g = moment_some r d t (h ∙ and_from (real_date d) (real_time t) (ap real_date de ∙ re) (ap real_time tu ∙ ru)) f in
-          (g.0, g.1, g.2 ∙ de, g.3 ∙ tu);
+          let same = moment_read cs d t p q e u re ru x in
+          let g = moment_some r d t (h ∙ and_from (real_date d) (real_time t) (ap real_date same.0 ∙ re) (ap real_time same.1 ∙ ru)) f in
+          (g.0, g.1, g.2 ∙ same.0, g.3 ∙ same.1);
       only = moment_same cs r d t w f;
     }
+
+-- a text that writes another date and time than are read of it, or none that are real, writes no moment
+pub moment_unwritten : (cs : List ℕ) (d : Date) (t : Time) → d ≡ date_at cs → t ≡ time_at cs → (real_date d ≡ true → real_time t ≡ true → cs ≡ moment_text d t → ⊥) → MomentOf cs None
+moment_unwritten cs d t p q not =
+    record {
+      told = λ e u re ru x.
+          let same = moment_read cs d t p q e u re ru x in
+          absurd (not (ap real_date same.0 ∙ re) (ap real_time same.1 ∙ ru) (x ∙ ap₂ moment_text (sym same.0) (sym same.1)));
+      only = tt;
+    }
+
+-- and gives no seconds
+pub seconds_unwritten : (cs : List ℕ) (d : Date) (t : Time) → d ≡ date_at cs → t ≡ time_at cs → (cs ≡ moment_text d t → ⊥) → None ≡ moment_at cs
+seconds_unwritten cs d t p q not =
+    let own = moment_text (date_at cs) (time_at cs) in
+    cond_both (bytes_eq cs own) (seconds_if_real (date_at cs) (time_at cs)) None (λ (o : Option ℕ). None ≡ o)
+    (λ e. absurd (not ((bytes_eq-Decides cs own).0 e ∙ ap₂ moment_text (sym p) (sym q))))
+    (λ e. refl)
 
 -- a moment's text gives its seconds, and only such a text gives any
 

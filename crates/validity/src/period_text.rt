@@ -1,4 +1,5 @@
-ghost use Rattle.std.specs.Prelude.{◌≡◌, ℕ, ◌≤◌, List, take, drop, is_some, IfSome};
+ghost use Rattle.std.specs.Prelude.{◌≡◌, ℕ, ◌≤◌, true, List, take, drop, is_some, IfSome};
+ghost use Rattle.calendar.specs.Gregorian.{real_date, real_time};
 ghost use Rattle.validity.specs.Periods.{InEveryCode, MomentOf, PeriodOf, ReadInEveryCode, between, date_at, moment_at, moment_seconds, moment_text, period_of, time_at, two_at, two_parts};
 
 use super::answer::Period;
@@ -39,8 +40,9 @@ fn time_at(text: &[u8; 19]) -> Time
     }
 }
 
-/// The text of a moment.
+/// The text of a real moment, whose numbers all fit their digits.
 fn moment_bytes(date: Date, time: Time) -> [u8; 19]
+    requires { (real_date date ≡ true) × (real_time time ≡ true) }
     ensures { result ≡ moment_text date time }
 {
     let mut text = *b"dd.MM.yyyy HH:mm:ss";
@@ -61,8 +63,9 @@ fn moment_of(text: &[u8; 19]) -> Option<Moment>
 {
     let date = date_at(text);
     let time = time_at(text);
+    let moment = Moment::new(date, time)?;
     if *text == moment_bytes(date, time) {
-        Moment::new(date, time)
+        Some(moment)
     } else {
         None
     }

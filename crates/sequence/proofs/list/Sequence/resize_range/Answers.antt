@@ -19,9 +19,9 @@ returns g c =
     let within : p + old ≤ s.len = search rules in
     let room : s.len - old + new ≤ length xs = search rules in
     let long : length (part p new xs) ≡ new = length_part p new xs (omega arith) in
-    let end : s.len - old + new ≡ p + new + (s.len - (p + old)) = omega arith in
-    let holds : take (s.len - old + new) c.copy_within.new.self ≡ spliced p old (part p new xs) h =
-    ap (take (s.len - old + new)) c.copy_within.ensures.after
+    let end : c.move_tail.new.self.len ≡ p + new + (s.len - (p + old)) = c.move_tail.ensures.len in
+    let holds : held c.move_tail.new.self ≡ spliced p old (part p new xs) h =
+    ap (take c.move_tail.new.self.len) c.move_tail.ensures.entries
     ∙ ap (λ m. take m (paste xs (p + new) (drop (p + old) xs) (s.len - (p + old)))) end
     ∙ front_resized p old new s.len s.len xs (sym (length-take-le s.len xs s.within)) within room in
     record {
